@@ -1,0 +1,3 @@
+// A water network within its limits, its edits, and the scores of a set of its nodes.
+pub mod network;
+pub mod pipe;
