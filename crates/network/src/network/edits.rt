@@ -1,6 +1,7 @@
 ghost use mathlib.Core.Path.{_≡_};
+ghost use lib.ListN.{length};
 ghost use Rattle.network.specs.Edits.{after-edit, edit-refusal};
-ghost use Rattle.network.specs.Edits.Edit.{add};
+ghost use Rattle.network.specs.Edits.Edit.{add, join, remove, weigh};
 ghost use Rattle.network.specs.Net.{count};
 ghost use Rattle.network.specs.Refusals.{answer};
 ghost use Rattle.network.specs.View.{view};
@@ -15,7 +16,7 @@ const MAX_WEIGHT: u32 = 4_000;
 const MAX_COST: u32 = 40_000;
 
 impl Network {
-    // Adds a node, and answers its number.
+    // Adds a node of this weight, and answers its number.
     pub fn add_node(&mut self, weight: u32) -> Result<usize, Fault>
         ensures answer { λ r. ⌜ r ≡ answer (edit-refusal (view (now (self .entry))) (add weight)) (count (view (now (self .entry)))) ⌝ }
         ensures after { λ _. ⌜ view (now (self .exit)) ≡ after-edit (view (now (self .entry))) (add weight) ⌝ }
@@ -29,5 +30,56 @@ impl Network {
         }
         self.weights.push_reserved(weight);
         Ok(node)
+    }
+
+    // Gives the node this weight.
+    pub fn weigh(&mut self, node: usize, weight: u32) -> Result<(), Fault>
+        ensures answer { λ r. ⌜ r ≡ answer (edit-refusal (view (now (self .entry))) (weigh node weight)) Prim.tt ⌝ }
+        ensures after { λ _. ⌜ view (now (self .exit)) ≡ after-edit (view (now (self .entry))) (weigh node weight) ⌝ }
+    {
+        if weight == 0 || weight > MAX_WEIGHT {
+            return Err(Fault::board(Refusal::WeightOutOfRange));
+        }
+        if node >= self.weights.len() {
+            return Err(Fault::board(Refusal::BadNodeOrPipe));
+        }
+        self.weights[node] = weight;
+        Ok(())
+    }
+
+    // Lays a pipe between two nodes at this cost, and answers its number.
+    pub fn join(&mut self, first: usize, second: usize, cost: u32) -> Result<usize, Fault>
+        ensures answer { λ r. ⌜ r ≡ answer (edit-refusal (view (now (self .entry))) (join first second cost)) (length (view (now (self .entry)) .pipes)) ⌝ }
+        ensures after { λ _. ⌜ view (now (self .exit)) ≡ after-edit (view (now (self .entry))) (join first second cost) ⌝ }
+    {
+        let pipe = self.pipes.len();
+        if pipe >= MAX_PIPES {
+            return Err(Fault::board(Refusal::TooManyNodesOrPipes));
+        }
+        let nodes = self.weights.len();
+        if first >= nodes || second >= nodes || first == second {
+            return Err(Fault::board(Refusal::BadNodeOrPipe));
+        }
+        if cost == 0 || cost > MAX_COST {
+            return Err(Fault::board(Refusal::CostOutOfRange));
+        }
+        self.pipes.push_reserved(Pipe {
+            first,
+            second,
+            cost,
+        });
+        Ok(pipe)
+    }
+
+    // Takes the pipe out; each later pipe's number falls by one.
+    pub fn remove(&mut self, pipe: usize) -> Result<(), Fault>
+        ensures answer { λ r. ⌜ r ≡ answer (edit-refusal (view (now (self .entry))) (remove pipe)) Prim.tt ⌝ }
+        ensures after { λ _. ⌜ view (now (self .exit)) ≡ after-edit (view (now (self .entry))) (remove pipe) ⌝ }
+    {
+        if pipe >= self.pipes.len() {
+            return Err(Fault::board(Refusal::BadNodeOrPipe));
+        }
+        let _ = self.pipes.remove(pipe);
+        Ok(())
     }
 }

@@ -1,0 +1,45 @@
+-- Sums over the nodes, as a loop makes them.
+-- Assumes nothing.
+use mathlib.Core.Bool.{Bool, true, false}
+use mathlib.Core.List.{List}
+use mathlib.Core.Path.{_≡_, refl}
+use Prim.Native.Nat.{ℕ, _+_, _*_, _≤_}
+use native.Mathlib.Numerals.{add-one}
+use native.Mathlib.Omega.{arith}
+use lib.ListN.{getD}
+use Rattle.network.specs.Limits.{max-weight, WeightFits}
+use Rattle.network.specs.declared.pipe.Pipe.{Pipe}
+use Rattle.network.specs.Net.{Nodes, when, below, adds, crosses}
+
+when-le : (b : Bool) (x : ℕ) → when b x ≤ x
+when-le b x = grind arith
+
+pub adds-le : (X : Nodes) (p : Pipe) → adds X p ≤ p .cost
+adds-le X p = when-le (crosses X p) (p .cost)
+
+below-none : (f : ℕ → ℕ) → below 0 f ≡ 0
+unfolding below
+below-none f = refl
+
+below-more : (f : ℕ → ℕ) (n : ℕ) → below (n + 1) f ≡ below n f + f n
+unfolding below
+below-more f n = rw add-one
+
+-- x and y are the weights that the sets X and Y, which share no node, have below n
+pub record Tally (X Y : Nodes) (ws : List ℕ) (n x y : ℕ) : Type 0 where
+  pub first : x ≡ below n (λ v. when (X v) (getD ws v 0))
+  pub second : y ≡ below n (λ v. when (Y v) (getD ws v 0))
+  pub bound : x + y ≤ n * max-weight
+
+module _ (X Y : Nodes) (ws : List ℕ) where
+  pub tally-none : Tally X Y ws 0 0 0
+  tally-none = record { first = rw below-none; second = rw below-none; bound = omega arith }
+
+  pub tally-first : (n x y x′ y′ : ℕ) → X n ≡ true → Y n ≡ false → WeightFits (getD ws n 0) → x′ ≡ x + getD ws n 0 → y′ ≡ y → Tally X Y ws n x y → Tally X Y ws (n + 1) x′ y′
+  tally-first n x y x′ y′ p q f d e t = record { first = rw (below-more, p) (omega arith); second = rw (below-more, q) (omega arith); bound = omega arith }
+
+  pub tally-second : (n x y x′ y′ : ℕ) → X n ≡ false → Y n ≡ true → WeightFits (getD ws n 0) → x′ ≡ x → y′ ≡ y + getD ws n 0 → Tally X Y ws n x y → Tally X Y ws (n + 1) x′ y′
+  tally-second n x y x′ y′ p q f d e t = record { first = rw (below-more, p) (omega arith); second = rw (below-more, q) (omega arith); bound = omega arith }
+
+  pub tally-neither : (n x y x′ y′ : ℕ) → X n ≡ false → Y n ≡ false → x′ ≡ x → y′ ≡ y → Tally X Y ws n x y → Tally X Y ws (n + 1) x′ y′
+  tally-neither n x y x′ y′ p q d e t = record { first = rw (below-more, p) (omega arith); second = rw (below-more, q) (omega arith); bound = omega arith }
