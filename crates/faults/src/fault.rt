@@ -48,6 +48,9 @@ pub impl fmt::Display for Fault as FaultDisplay {
         let number = self.number();
         let layer = self.layer.name();
         let place = self.place;
-        write!(f, "{wording} (refusal {number}, layer {layer}, place {place})")
+        write!(
+            f,
+            "{wording} (refusal {number}, layer {layer}, place {place})"
+        )
     }
 }

@@ -59,15 +59,18 @@ impl Refusal {
             Refusal::TooManyNodesOrPipes => "there would be over 128 nodes or over 512 pipes",
             Refusal::WrongFileLength => "the file's length is not what its counts demand",
             Refusal::WeightOutOfRange => "a weight is outside 1 to 4000",
-            Refusal::BadNodeOrPipe => "a named node or pipe does not exist, or a pipe's ends are the same node",
+            Refusal::BadNodeOrPipe =>
+                "a named node or pipe does not exist, or a pipe's ends are the same node",
             Refusal::CostOutOfRange => "a cost is outside 1 to 40000",
-            Refusal::BadMarks => "the marks are not as many as the nodes, or one is neither 0 nor 1",
+            Refusal::BadMarks =>
+                "the marks are not as many as the nodes, or one is neither 0 nor 1",
             Refusal::BadProposal => "the proposal is empty or weighs more than the remainder",
             Refusal::WrongPhase => "the phase does not allow the call",
             Refusal::NoReleaseLeft => "the board has given 1000000 releases",
             Refusal::WrongSerial => "the release's serial number is not the board's",
             Refusal::BufferTooShort => "an output buffer is too short for the whole output",
-            Refusal::BadFlowNetwork => "a flow network is over the limits, a list or marks buffer has the wrong length, or an end node is missing or doubled",
+            Refusal::BadFlowNetwork =>
+                "a flow network is over the limits, a list or marks buffer has the wrong length, or an end node is missing or doubled",
             Refusal::CapacityTooLarge => "the capacities of a flow network sum to more than 2^62",
             Refusal::NotACommand => "the line is over 400 bytes or is no command",
         }

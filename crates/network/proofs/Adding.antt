@@ -2,14 +2,14 @@
 -- Assumes nothing.
 use mathlib.Core.Bool.{Bool, true, false}
 use mathlib.Core.List.{List}
-use mathlib.Core.Path.{_≡_, refl}
+use mathlib.Core.Path.{_≡_, refl, subst}
 use Prim.Native.Nat.{ℕ, _+_, _*_, _≤_}
 use native.Mathlib.Numerals.{add-one}
 use native.Mathlib.Omega.{arith}
-use lib.ListN.{getD}
-use Rattle.network.specs.Limits.{max-weight, WeightFits}
+use lib.ListN.{length, getD}
+use Rattle.network.specs.Limits.{max-nodes, max-weight, WeightFits}
 use Rattle.network.specs.declared.pipe.Pipe.{Pipe}
-use Rattle.network.specs.Net.{Nodes, when, below, adds, crosses}
+use Rattle.network.specs.Net.{Nodes, when, below, weight-in, adds, crosses}
 
 when-le : (b : Bool) (x : ℕ) → when b x ≤ x
 when-le b x = grind arith
@@ -43,3 +43,11 @@ module _ (X Y : Nodes) (ws : List ℕ) where
 
   pub tally-neither : (n x y x′ y′ : ℕ) → X n ≡ false → Y n ≡ false → x′ ≡ x → y′ ≡ y → Tally X Y ws n x y → Tally X Y ws (n + 1) x′ y′
   tally-neither n x y x′ y′ p q d e t = record { first = rw (below-more, p) (omega arith); second = rw (below-more, q) (omega arith); bound = omega arith }
+
+  -- the whole sums, at the end of the loop
+  pub tally-all : (n x y : ℕ) → n ≡ length ws → length ws ≤ max-nodes → Tally X Y ws n x y
+      → (x ≡ weight-in ws X) × (y ≡ weight-in ws Y) × (x + y ≤ max-nodes * max-weight)
+  unfolding weight-in
+  tally-all n x y e few t =
+      let whole = subst (λ (k : ℕ). Tally X Y ws k x y) e t in
+      (whole .first, whole .second, omega (arith, whole .bound))

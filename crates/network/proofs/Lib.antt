@@ -1,2 +1,9 @@
 pub mod Keeps
 pub mod Adding
+pub mod Signing
+pub mod Weights
+pub mod Answering
+pub mod Denominators
+pub mod Ordering
+pub mod Accepting
+pub mod Boards

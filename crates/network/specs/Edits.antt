@@ -8,11 +8,12 @@ use lib.ListN.{length, set}
 use Rattle.std.specs.Holes.{removed}
 use Rattle.std.specs.declared.option.Option.{Option}
 use Rattle.std.specs.declared.option.Option.the-variants.{Some, None}
+use Rattle.std.specs.declared.result.Result.{Result}
 use Rattle.faults.specs.declared.fault.Fault.{Fault}
 use Rattle.faults.specs.declared.refusal.Refusal.the-variants.{TooManyNodesOrPipes, WeightOutOfRange, BadNodeOrPipe, CostOutOfRange}
 use Rattle.network.specs.Limits.{max-nodes, max-pipes, min-weight, max-weight, min-cost, max-cost}
 use Rattle.network.specs.Net.{Net, count}
-use Rattle.network.specs.Refusals.{refuse-if, unless}
+use Rattle.network.specs.Refusals.{refuse-if, unless, answer}
 
 -- a new node of a weight; a node's new weight; a pipe between two nodes at a cost; a pipe taken out
 pub data Edit : Type 0 where
@@ -24,6 +25,10 @@ pub data Edit : Type 0 where
 abbrev pub outside-limits : ℕ → ℕ → ℕ → Bool
 outside-limits low high x = ltb x low || ltb high x
 
+-- of n nodes, an end does not exist, or both ends are the same node
+abbrev pub bad-ends : ℕ → ℕ → ℕ → Bool
+bad-ends n a b = leb n a || (leb n b || eqb a b)
+
 -- the first refusal that is due, if one is
 abbrev pub edit-refusal : Net → Edit → Option Fault
 edit-refusal net (add w) =
@@ -34,7 +39,7 @@ edit-refusal net (weigh v w) =
     (refuse-if (leb (count net) v) BadNodeOrPipe None)
 edit-refusal net (join a b c) =
     refuse-if (leb max-pipes (length (net .pipes))) TooManyNodesOrPipes
-    (refuse-if (leb (count net) a || (leb (count net) b || eqb a b)) BadNodeOrPipe
+    (refuse-if (bad-ends (count net) a b) BadNodeOrPipe
     (refuse-if (outside-limits min-cost max-cost c) CostOutOfRange None))
 edit-refusal net (remove p) = refuse-if (leb (length (net .pipes)) p) BadNodeOrPipe None
 
@@ -48,3 +53,16 @@ edited net (remove p) = record { weights = net .weights; pipes = removed (net .p
 -- the network after the edit, refused or not
 abbrev pub after-edit : Net → Edit → Net
 after-edit net e = unless (edit-refusal net e) net (edited net e)
+
+-- what an edit answers: the number of a new node or pipe, and else bare acceptance
+abbrev pub add-answer : Net → ℕ → Result ℕ Fault
+add-answer net w = answer (edit-refusal net (add w)) (count net)
+
+abbrev pub weigh-answer : Net → ℕ → ℕ → Result (Unit {0}) Fault
+weigh-answer net v w = answer (edit-refusal net (weigh v w)) tt
+
+abbrev pub join-answer : Net → ℕ → ℕ → ℕ → Result ℕ Fault
+join-answer net a b c = answer (edit-refusal net (join a b c)) (length (net .pipes))
+
+abbrev pub remove-answer : Net → ℕ → Result (Unit {0}) Fault
+remove-answer net p = answer (edit-refusal net (remove p)) tt

@@ -1,8 +1,10 @@
-pub mod Limits
 pub mod Net
+pub mod Limits
 pub mod Scores
 pub mod Refusals
 pub mod Marks
+pub mod Answers
 pub mod Edits
 pub mod Laws
+pub mod Worked
 pub mod View

@@ -5,6 +5,7 @@ use mathlib.Core.Path.{_≡_}
 use Prim.Native.Nat.{ℕ, _≤_, _<_}
 use lib.ListN.{length, getD}
 use Rattle.network.specs.declared.pipe.Pipe.{Pipe}
+use Rattle.network.specs.Net.{Net}
 
 abbrev pub max-nodes : ℕ
 max-nodes = 128
@@ -44,3 +45,6 @@ PipesFit n ps = (k : ℕ) → k < length ps → PipeFits n (getD ps k no-pipe)
 -- the limits of a network of nodes with these weights, joined by these pipes
 abbrev pub Limits : List ℕ → List Pipe → Type 0
 Limits ws ps = (length ws ≤ max-nodes) × (length ps ≤ max-pipes) × WeightsFit ws × PipesFit (length ws) ps
+
+abbrev pub WithinLimits : Net → Type 0
+WithinLimits net = Limits (net .weights) (net .pipes)

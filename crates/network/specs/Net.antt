@@ -58,20 +58,25 @@ crosses X p = xor (X (p .first)) (X (p .second))
 abbrev pub adds : Nodes → Pipe → ℕ
 adds X p = when (crosses X p) (p .cost)
 
-module _ (net : Net) where
-  abbrev pub node-weight : ℕ → ℕ
-  node-weight v = getD (net .weights) v 0
+-- the weight of the nodes in X, where ws are the weights of all nodes
+unfoldable pub weight-in : List ℕ → Nodes → ℕ
+weight-in ws X = below (length ws) (λ v. when (X v) (getD ws v 0))
 
-  unfoldable pub weight : Nodes → ℕ
-  weight X = below (count net) (λ v. when (X v) (node-weight v))
+-- the summed cost of the pipes, of ps, with exactly one end in X
+unfoldable pub cost-across : List Pipe → Nodes → ℕ
+cost-across ps X = sumBy (adds X) ps
+
+module _ (net : Net) where
+  abbrev pub weight : Nodes → ℕ
+  weight X = weight-in (net .weights) X
 
   -- the weight of all nodes
-  unfoldable pub total : ℕ
+  abbrev pub total : ℕ
   total = weight everywhere
 
-  -- the summed cost of the pipes with exactly one end in X
-  unfoldable pub boundary : Nodes → ℕ
-  boundary X = sumBy (adds X) (net .pipes)
+  -- the boundary cost of X
+  abbrev pub boundary : Nodes → ℕ
+  boundary X = cost-across (net .pipes) X
 
   -- the weight of the lighter side
   unfoldable pub lighter : Nodes → ℕ

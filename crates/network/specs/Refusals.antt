@@ -23,3 +23,8 @@ answer None x = Ok x
 abbrev pub unless : {S : Type 0} → Option Fault → S → S → S
 unless (Some f) x y = x
 unless None x y = y
+
+-- the first fault, or else the second
+abbrev pub or-else : Option Fault → Option Fault → Option Fault
+or-else (Some f) later = Some f
+or-else None later = later

@@ -29,7 +29,7 @@ fn bad_marks(place: usize) -> Fault
 }
 
 // Refuses marks that are not one for each of so many nodes, each 0 or 1.
-pub fn check_marks(marks: &[u8], nodes: usize) -> Result<(), Fault>
+pub(crate) fn check_marks(marks: &[u8], nodes: usize) -> Result<(), Fault>
     ensures { λ r. ⌜ r ≡ answer (marks-fault nodes (now (marks .entry))) Prim.tt ⌝ }
 {
     if marks.len() != nodes {

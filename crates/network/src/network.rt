@@ -6,6 +6,8 @@ use crate::pipe::Pipe;
 
 mod edits;
 mod makes;
+mod reads;
+mod scores;
 
 // The weight of each node and the pipes, both numbered from 0 in the order in which they were added.
 // Room for all that the limits allow is reserved once, so that no call but `new` allocates.

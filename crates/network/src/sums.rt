@@ -1,9 +1,8 @@
 ghost use mathlib.Core.Path.{_≡_};
-ghost use Prim.Native.Nat.{_<_, _≤_};
-ghost use lib.ListN.{getD, length};
-ghost use Rattle.std.specs.shelf.Lists.{sumBy};
-ghost use Rattle.network.specs.Limits.{max-nodes, max-pipes, PipesFit, WeightsFit};
-ghost use Rattle.network.specs.Net.{adds, below, complement, set-of, when, within, without};
+ghost use Prim.Native.Nat.{_*_, _+_, _<_, _≤_};
+ghost use lib.ListN.{length};
+ghost use Rattle.network.specs.Limits.{max-nodes, max-pipes, max-weight, PipesFit, WeightsFit};
+ghost use Rattle.network.specs.Net.{adds, complement, cost-across, set-of, weight-in, within, without};
 use crate::pipe::Pipe;
 
 // The weight of the marked nodes, and of the others.
@@ -11,8 +10,9 @@ pub(crate) fn sides(weights: &[u32], marks: &[u8]) -> (u32, u32)
     requires long { ⌜ length (now marks) ≡ length (now weights) ⌝ }
     requires few { ⌜ length (now weights) ≤ max-nodes ⌝ }
     requires fit { ⌜ WeightsFit (now weights) ⌝ }
-    ensures marked { λ r. ⌜ r .0 ≡ below (length (now (weights .entry))) (λ v. when (set-of (now (marks .entry)) v) (getD (now (weights .entry)) v 0)) ⌝ }
-    ensures others { λ r. ⌜ r .1 ≡ below (length (now (weights .entry))) (λ v. when (complement (set-of (now (marks .entry))) v) (getD (now (weights .entry)) v 0)) ⌝ }
+    ensures marked { λ r. ⌜ r .0 ≡ weight-in (now (weights .entry)) (set-of (now (marks .entry))) ⌝ }
+    ensures others { λ r. ⌜ r .1 ≡ weight-in (now (weights .entry)) (complement (set-of (now (marks .entry)))) ⌝ }
+    ensures bound { λ r. ⌜ r .0 + r .1 ≤ max-nodes * max-weight ⌝ }
 {
     let mut marked = 0;
     let mut others = 0;
@@ -32,8 +32,9 @@ pub(crate) fn parts(weights: &[u32], proposal: &[u8], marks: &[u8]) -> (u32, u32
     requires long { ⌜ length (now marks) ≡ length (now weights) ⌝ }
     requires few { ⌜ length (now weights) ≤ max-nodes ⌝ }
     requires fit { ⌜ WeightsFit (now weights) ⌝ }
-    ensures inside { λ r. ⌜ r .0 ≡ below (length (now (weights .entry))) (λ v. when (within (set-of (now (proposal .entry))) (set-of (now (marks .entry))) v) (getD (now (weights .entry)) v 0)) ⌝ }
-    ensures outside { λ r. ⌜ r .1 ≡ below (length (now (weights .entry))) (λ v. when (without (set-of (now (proposal .entry))) (set-of (now (marks .entry))) v) (getD (now (weights .entry)) v 0)) ⌝ }
+    ensures inside { λ r. ⌜ r .0 ≡ weight-in (now (weights .entry)) (within (set-of (now (proposal .entry))) (set-of (now (marks .entry)))) ⌝ }
+    ensures outside { λ r. ⌜ r .1 ≡ weight-in (now (weights .entry)) (without (set-of (now (proposal .entry))) (set-of (now (marks .entry)))) ⌝ }
+    ensures bound { λ r. ⌜ r .0 + r .1 ≤ max-nodes * max-weight ⌝ }
 {
     let mut inside = 0;
     let mut outside = 0;
@@ -62,7 +63,7 @@ fn added_cost(pipe: Pipe, marks: &[u8]) -> u32
 pub(crate) fn cost_across(pipes: &[Pipe], marks: &[u8]) -> u32
     requires few { ⌜ length (now pipes) ≤ max-pipes ⌝ }
     requires fit { ⌜ PipesFit (length (now marks)) (now pipes) ⌝ }
-    ensures { λ r. ⌜ r ≡ sumBy (adds (set-of (now (marks .entry)))) (now (pipes .entry)) ⌝ }
+    ensures { λ r. ⌜ r ≡ cost-across (now (pipes .entry)) (set-of (now (marks .entry))) ⌝ }
 {
     let mut sum = 0;
     for pipe in pipes {

@@ -1,9 +1,6 @@
 ghost use mathlib.Core.Path.{_≡_};
-ghost use lib.ListN.{length};
-ghost use Rattle.network.specs.Edits.{after-edit, edit-refusal};
+ghost use Rattle.network.specs.Edits.{add-answer, after-edit, join-answer, remove-answer, weigh-answer};
 ghost use Rattle.network.specs.Edits.Edit.{add, join, remove, weigh};
-ghost use Rattle.network.specs.Net.{count};
-ghost use Rattle.network.specs.Refusals.{answer};
 ghost use Rattle.network.specs.View.{view};
 use super::Network;
 use crate::pipe::Pipe;
@@ -11,14 +8,17 @@ use faults::fault::Fault;
 use faults::refusal::Refusal;
 
 const MAX_NODES: usize = 128;
+
 const MAX_PIPES: usize = 512;
+
 const MAX_WEIGHT: u32 = 4_000;
+
 const MAX_COST: u32 = 40_000;
 
 impl Network {
     // Adds a node of this weight, and answers its number.
     pub fn add_node(&mut self, weight: u32) -> Result<usize, Fault>
-        ensures answer { λ r. ⌜ r ≡ answer (edit-refusal (view (now (self .entry))) (add weight)) (count (view (now (self .entry)))) ⌝ }
+        ensures answer { λ r. ⌜ r ≡ add-answer (view (now (self .entry))) weight ⌝ }
         ensures after { λ _. ⌜ view (now (self .exit)) ≡ after-edit (view (now (self .entry))) (add weight) ⌝ }
     {
         let node = self.weights.len();
@@ -34,7 +34,7 @@ impl Network {
 
     // Gives the node this weight.
     pub fn weigh(&mut self, node: usize, weight: u32) -> Result<(), Fault>
-        ensures answer { λ r. ⌜ r ≡ answer (edit-refusal (view (now (self .entry))) (weigh node weight)) Prim.tt ⌝ }
+        ensures answer { λ r. ⌜ r ≡ weigh-answer (view (now (self .entry))) node weight ⌝ }
         ensures after { λ _. ⌜ view (now (self .exit)) ≡ after-edit (view (now (self .entry))) (weigh node weight) ⌝ }
     {
         if weight == 0 || weight > MAX_WEIGHT {
@@ -49,7 +49,7 @@ impl Network {
 
     // Lays a pipe between two nodes at this cost, and answers its number.
     pub fn join(&mut self, first: usize, second: usize, cost: u32) -> Result<usize, Fault>
-        ensures answer { λ r. ⌜ r ≡ answer (edit-refusal (view (now (self .entry))) (join first second cost)) (length (view (now (self .entry)) .pipes)) ⌝ }
+        ensures answer { λ r. ⌜ r ≡ join-answer (view (now (self .entry))) first second cost ⌝ }
         ensures after { λ _. ⌜ view (now (self .exit)) ≡ after-edit (view (now (self .entry))) (join first second cost) ⌝ }
     {
         let pipe = self.pipes.len();
@@ -73,7 +73,7 @@ impl Network {
 
     // Takes the pipe out; each later pipe's number falls by one.
     pub fn remove(&mut self, pipe: usize) -> Result<(), Fault>
-        ensures answer { λ r. ⌜ r ≡ answer (edit-refusal (view (now (self .entry))) (remove pipe)) Prim.tt ⌝ }
+        ensures answer { λ r. ⌜ r ≡ remove-answer (view (now (self .entry))) pipe ⌝ }
         ensures after { λ _. ⌜ view (now (self .exit)) ≡ after-edit (view (now (self .entry))) (remove pipe) ⌝ }
     {
         if pipe >= self.pipes.len() {

@@ -5,7 +5,7 @@ use lib.ListN.{getD}
 use lib.Seq.{take-all}
 use Rattle.std.proofs.shelf.Sums.{sumBy-more}
 use Rattle.network.specs.Limits.{no-pipe, PipeFits, max-cost}
-use Rattle.network.specs.Net.{adds, set-of}
+use Rattle.network.specs.Net.{adds, cost-across, set-of}
 use Rattle.network.proofs.Adding.{adds-le}
 use Rattle.network.proofs.sums.cost_across.Needs as need
 
@@ -18,4 +18,5 @@ loop-pipe-again c =
     (omega (arith, is, c .loop-pipe .inv .0, sumBy-more (adds X) (c .args .pipes .now) (c .loop-pipe .pipe-index) no-pipe (c .loop-pipe-test .taken)), omega (arith, is, few, c .loop-pipe .inv .1, adds-le X p))
 
 pub returns : need.returns
+unfolding cost-across
 returns c = rw (take-all (c .loop-pipe .pipe-index) (c .args .pipes .now) (c .loop-pipe-test .left)) at (c .loop-pipe .inv .0)

@@ -1,7 +1,8 @@
+use native.Mathlib.Omega.{arith}
 use mathlib.Core.Bool.{not}
 use mathlib.Core.Path.{ap}
 use Rattle.std.proofs.shelf.Tests.{eq-eqb, ne-eqb}
-use Rattle.network.proofs.Adding.{tally-none, tally-first, tally-second}
+use Rattle.network.proofs.Adding.{tally-all, tally-none, tally-first, tally-second}
 use Rattle.network.proofs.sums.sides.Needs as need
 use Rattle.network.proofs.sums.sides.Needs.{then-marks-v-eq1, else-marks-v-eq1}
 
@@ -12,10 +13,13 @@ pub loop-v-again : need.loop-v-again
 loop-v-again c =
     let fits = c .pre .fit (c .loop-v .v) (c .loop-v-test .taken) in
     elim (c .if-marks-v-eq1 .came) [
-      then-marks-v-eq1 w ↦
+      | then-marks-v-eq1 w ↦
           let e = eq-eqb _ _ (w .if-marks-v-eq1 .taken) in
           tally-first _ _ _ _ _ _ _ _ e (ap not e) fits (w .marked-is) (w .others-is) (c .loop-v .inv)
       | else-marks-v-eq1 w ↦
           let e = ne-eqb _ _ (w .if-marks-v-eq1 .left) in
           tally-second _ _ _ _ _ _ _ _ e (ap not e) fits (w .marked-is) (w .others-is) (c .loop-v .inv)
     ]
+
+pub returns : need.returns
+returns c = let t = tally-all _ _ _ _ _ _ (omega arith) (c .pre .few) (c .loop-v .inv) in record { marked = t .0; others = t .1; bound = t .2 }

@@ -1,0 +1,92 @@
+-- That an edit is accepted exactly where it keeps the limits.
+-- Assumes nothing.
+use mathlib.Core.Bool.{Bool, true, false}
+use mathlib.Core.List.{List, [], _∷_, _++_}
+use mathlib.Core.Path.{_≡_, refl, subst}
+use Prim.Native.Nat.{ℕ, _+_, _≤_, _<_}
+use native.Mathlib.Omega.{arith}
+use lib.ListN.{length, getD, set, length-append, length-set}
+use lib.Seq.{getD-append-seam, getD-set-same}
+use Rattle.std.proofs.shelf.Tests.{leb-false, ltb-false, lt-leb, le-ltb, ne-eqb, eqb-false, or-from, or-parts}
+use Rattle.std.specs.declared.option.Option.{Option}
+use Rattle.std.specs.declared.option.Option.the-variants.{Some, None}
+use Rattle.faults.specs.Faults.{board-fault}
+use Rattle.faults.specs.declared.fault.Fault.{Fault}
+use Rattle.faults.specs.declared.refusal.Refusal.{Refusal}
+use Rattle.network.specs.declared.pipe.Pipe.{Pipe}
+use Rattle.network.specs.Edits.{bad-ends, outside-limits}
+use Rattle.network.specs.Edits.Edit.{add, weigh, join, remove}
+use Rattle.network.specs.Laws.{Accepted-within-limits}
+use Rattle.network.specs.Limits.{PipeFits, PipesFit, WeightFits, WeightsFit, no-pipe}
+use Rattle.network.specs.Refusals.{refuse-if}
+use Rattle.network.proofs.Keeps.{add-keeps, weigh-keeps, join-keeps, remove-keeps}
+
+refused : (f : Fault) → Some f ≡ None → ⊥
+refused f e = let z : _≡_ {A = ℕ} 0 1 = cc in omega arith
+
+-- a call goes on just where the condition fails and nothing later refuses it
+passed : (b : Bool) (r : Refusal) (later : Option Fault) → refuse-if b r later ≡ None → (b ≡ false) × (later ≡ None)
+passed true r later e = absurd (refused (board-fault r) e)
+passed false r later e = (refl, e)
+
+passes : (b : Bool) (r : Refusal) (later : Option Fault) → b ≡ false → later ≡ None → refuse-if b r later ≡ None
+passes true r later e n = let z : _≡_ {A = ℕ} 0 1 = cc in absurd (omega arith)
+passes false r later e n = n
+
+within-limits : (low high x : ℕ) → outside-limits low high x ≡ false → (low ≤ x) × (x ≤ high)
+within-limits low high x e = let p = or-parts _ _ e in (ltb-false x low (p .0), ltb-false high x (p .1))
+
+not-outside : (low high x : ℕ) → low ≤ x → x ≤ high → outside-limits low high x ≡ false
+not-outside low high x h k = or-from _ _ (le-ltb x low h) (le-ltb high x k)
+
+good-ends : (n a b : ℕ) → bad-ends n a b ≡ false → (a < n) × (b < n) × (a ≡ b → ⊥)
+good-ends n a b e =
+    let (p, q) = or-parts _ _ e in
+    let (r, s) = or-parts _ _ q in
+    (leb-false n a p, leb-false n b r, eqb-false a b s)
+
+not-bad : (n a b : ℕ) → a < n → b < n → (a ≡ b → ⊥) → bad-ends n a b ≡ false
+not-bad n a b p q r = or-from _ _ (lt-leb n a p) (or-from _ _ (lt-leb n b q) (ne-eqb a b r))
+
+-- what is added last, or set, fits too
+last-weight : (ws : List ℕ) (w : ℕ) → WeightsFit (ws ++ w ∷ []) → WeightFits w
+last-weight ws w h =
+    let l : length ws < length (ws ++ w ∷ []) = omega (arith, length-append ws (w ∷ [])) in
+    subst WeightFits (getD-append-seam ws w [] 0) (h (length ws) l)
+
+set-weight : (ws : List ℕ) (v w : ℕ) → v < length ws → WeightsFit (set ws v w) → WeightFits w
+set-weight ws v w l h = subst WeightFits (getD-set-same ws v w 0 l) (h v (omega (arith, length-set ws v w)))
+
+last-pipe : (n : ℕ) (ps : List Pipe) (p : Pipe) → PipesFit n (ps ++ p ∷ []) → PipeFits n p
+last-pipe n ps p h =
+    let l : length ps < length (ps ++ p ∷ []) = omega (arith, length-append ps (p ∷ [])) in
+    subst (PipeFits n) (getD-append-seam ps p [] no-pipe) (h (length ps) l)
+
+pub accepted-within-limits : Accepted-within-limits
+accepted-within-limits net (add w) h = (
+  (λ e. let (room, f) = passed _ _ _ e in
+      (tt, add-keeps _ _ w h (leb-false _ _ room) (within-limits _ _ w (passed _ _ _ f .0)))),
+  (λ k. let (_, l) = k in
+      let f = last-weight (net .weights) w (l .2) in
+      passes _ _ _ (lt-leb _ _ (omega (arith, l .0, length-append (net .weights) (w ∷ [])))) (passes _ _ _ (not-outside _ _ w (f .0) (f .1)) refl)),
+)
+accepted-within-limits net (weigh v w) h = (
+  (λ e. let (f, there) = passed _ _ _ e in
+      (leb-false _ _ (passed _ _ _ there .0), weigh-keeps _ _ v w h (within-limits _ _ w f))),
+  (λ k. let (there, l) = k in
+      let f = set-weight (net .weights) v w there (l .2) in
+      passes _ _ _ (not-outside _ _ w (f .0) (f .1)) (passes _ _ _ (lt-leb _ _ there) refl)),
+)
+accepted-within-limits net (join a b c) h = (
+  (λ e. let (room, f) = passed _ _ _ e in
+      let (ends, g) = passed _ _ _ f in
+      let (p, q, apart) = good-ends _ a b ends in
+      let (low, high) = within-limits _ _ c (passed _ _ _ g .0) in
+      (tt, join-keeps _ _ _ h (leb-false _ _ room) (p, q, apart, low, high))),
+  (λ k. let (_, l) = k in
+      let f = last-pipe (length (net .weights)) (net .pipes) (record { first = a; second = b; cost = c }) (l .3) in
+      passes _ _ _ (lt-leb _ _ (omega (arith, l .1, length-append (net .pipes) (record { first = a; second = b; cost = c } ∷ []))))
+      (passes _ _ _ (not-bad _ a b (f .0) (f .1) (f .2)) (passes _ _ _ (not-outside _ _ c (f .3) (f .4)) refl))),
+)
+accepted-within-limits net (remove p) h =
+    ((λ e. let there = leb-false _ _ (passed _ _ _ e .0) in (there, remove-keeps _ _ p h there)), (λ k. passes _ _ _ (lt-leb _ _ (k .0)) refl))
