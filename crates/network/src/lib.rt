@@ -4,3 +4,6 @@ mod marks;
 pub mod network;
 pub mod pipe;
 mod sums;
+
+#[cfg(test)]
+mod tests;
