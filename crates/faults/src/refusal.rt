@@ -50,7 +50,7 @@ impl Refusal {
     }
 
     // What is wrong, in words.
-    pub fn wording(self) -> &'static str
+    pub(crate) fn wording(self) -> &'static str
         ensures { λ r. ⌜ now r ≡ wording self ⌝ }
     {
         match self {

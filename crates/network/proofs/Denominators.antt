@@ -1,6 +1,6 @@
 -- The laws of boundaries and denominators.
 -- Assumes nothing.
-use mathlib.Core.Bool.{Bool, true, false, not, _&&_, xor}
+use mathlib.Core.Bool.{Bool, true, false, not, _&&_}
 use mathlib.Core.List.{List, [], _∷_}
 use mathlib.Core.Logic.{⊎-elim}
 use mathlib.Core.Path.{_≡_, refl, ap, sym, subst}
@@ -16,13 +16,12 @@ use Rattle.std.specs.Numbers.{maxZ}
 use Rattle.std.specs.shelf.Lists.{sumBy}
 use Rattle.network.specs.declared.pipe.Pipe.{Pipe}
 use Rattle.network.specs.Laws.{Boundary-of-complement, Largest, Largest-denominator, Natural-form, Opposite-denominators, Within-lighter-side}
-use Rattle.network.specs.Net.{Net, Nodes, adds, complement, cost-across, lighter, weight, when, without}
+use Rattle.network.specs.Net.{Net, Nodes, adds, complement, cost-across, exactly-one, lighter, weight, when, without}
 use Rattle.network.specs.Scores.{denominator, inside, outside, positive-denominator, remainder}
-use Rattle.network.proofs.Weights.{insides, joined, lighter-is, outsides, parts}
+use Rattle.network.proofs.Weights.{insides, joined, outsides, parts}
 
 -- a pipe crosses a set just where it crosses the complement
-both-turned : (x y : Bool) → xor (not x) (not y) ≡ xor x y
-unfolding xor
+both-turned : (x y : Bool) → exactly-one (not x) (not y) ≡ exactly-one x y
 both-turned true true = refl
 both-turned true false = refl
 both-turned false true = refl
@@ -94,12 +93,11 @@ pub largest-denominator : Largest-denominator
 largest-denominator net A = record { own = own-denominator net A; most = most-denominator net A }
 
 pub within-lighter-side : Within-lighter-side
-unfolding denominator
+unfolding denominator lighter
 within-lighter-side net A X h =
     let b = remainder net A in
     let i = insides net A X in
     let o = outsides net A X in
-    subst (λ (n : ℕ). denominator net A X ≤ℤ pos (b * n)) (sym (lighter-is net X))
-    (at-lighter (denominator net A X) b (weight net X) (weight net (complement X))
+    at-lighter (denominator net A X) b (weight net X) (weight net (complement X))
     (subst (λ (n : ℕ). denominator net A X ≤ℤ pos (b * n)) (parts net A X) (below-set _ b _ _ _ _ i o))
-    (subst (λ (n : ℕ). denominator net A X ≤ℤ pos (b * n)) (parts net A (complement X)) (below-rest _ b _ _ _ _ i o h)))
+    (subst (λ (n : ℕ). denominator net A X ≤ℤ pos (b * n)) (parts net A (complement X)) (below-rest _ b _ _ _ _ i o h))

@@ -2,7 +2,6 @@ pub mod Keeps
 pub mod Adding
 pub mod Signing
 pub mod Weights
-pub mod Answering
 pub mod Denominators
 pub mod Ordering
 pub mod Accepting

@@ -2,12 +2,12 @@
 -- Assumes nothing.
 use mathlib.Core.Bool.{Bool, true, false, not, _&&_}
 use mathlib.Core.Path.{_≡_}
-use Prim.Native.Nat.{ℕ, zero, suc, _+_, _-_, _*_, min}
-use lib.IntN.{ℤ, pos, _-ℤ_}
+use Prim.Native.Nat.{ℕ, zero, suc, _+_}
 use native.Mathlib.Omega.{arith}
 use lib.ListN.{length, getD}
-use Rattle.network.specs.Net.{Net, Nodes, when, below, complement, within, without, everywhere, weight-in, weight, total, lighter}
-use Rattle.network.specs.Scores.{remainder, inside, outside, denominator}
+use Rattle.network.specs.Net.{Net, Nodes, when, below, complement, within, without, everywhere, weight-in, weight, total}
+use Rattle.network.specs.Laws.{Sides-make-the-whole}
+use Rattle.network.specs.Scores.{remainder, inside, outside}
 
 below-plus : (f g h : ℕ → ℕ) → ((v : ℕ) → f v + g v ≡ h v) → (n : ℕ) → below n f + below n g ≡ below n h
 unfolding below
@@ -20,24 +20,13 @@ module _ (net : Net) where
   unfolding weight-in
   joined X Y Z e = below-plus _ _ _ (λ v. e v (getD (net .weights) v 0)) (length (net .weights))
 
-  pub whole : (X : Nodes) → weight net X + weight net (complement X) ≡ total net
+  whole : (X : Nodes) → weight net X + weight net (complement X) ≡ total net
   whole X = joined X (complement X) everywhere (λ v w. both-sides (X v) w)
     where
       both-sides : (x : Bool) (w : ℕ) → when x w + when (not x) w ≡ when true w
       both-sides x w = grind arith
 
-  pub rest-is : (X : Nodes) → total net - weight net X ≡ weight net (complement X)
-  rest-is X = omega (arith, whole X)
-
-  pub lighter-is : (X : Nodes) → lighter net X ≡ min (weight net X) (weight net (complement X))
-  unfolding lighter
-  lighter-is X = rw (rest-is X)
-
   module _ (A : Nodes) where
-    pub remainder-is : remainder net A ≡ weight net (complement A)
-    unfolding remainder
-    remainder-is = rest-is A
-
     pub parts : (X : Nodes) → inside net A X + outside net A X ≡ weight net X
     unfolding inside outside
     parts X = joined (within A X) (without A X) X (λ v w. split (X v) (A v) w)
@@ -54,14 +43,11 @@ module _ (net : Net) where
         split x a w = grind arith
 
     pub outsides : (X : Nodes) → outside net A X + outside net A (complement X) ≡ remainder net A
-    unfolding outside
-    outsides X = rw remainder-is (joined (without A X) (without A (complement X)) (complement A) (λ v w. split (X v) (A v) w))
+    unfolding outside remainder
+    outsides X = joined (without A X) (without A (complement X)) (complement A) (λ v w. split (X v) (A v) w)
       where
         split : (x a : Bool) (w : ℕ) → when (x && not a) w + when (not x && not a) w ≡ when (not a) w
         split x a w = grind arith
 
-    -- the denominator from the weights of the four parts
-    pub denominator-is : (X : Nodes) (a b i o : ℕ) (z : ℤ) → a ≡ weight net A → b ≡ weight net (complement A) → i ≡ weight net (within A X)
-        → o ≡ weight net (without A X) → z ≡ pos (b * i) -ℤ pos (a * o) → z ≡ denominator net A X
-    unfolding denominator inside outside
-    denominator-is X a b i o z p q r s e = let k = remainder-is in cc
+pub sides-make-the-whole : Sides-make-the-whole
+sides-make-the-whole = whole

@@ -2,7 +2,7 @@
 -- Assumes nothing.
 use mathlib.Core.Logic.{_↔_, _⊎_}
 use mathlib.Core.Path.{_≡_}
-use Prim.Native.Nat.{ℕ, _*_, _≤_, _<_}
+use Prim.Native.Nat.{ℕ, _+_, _*_, _≤_, _<_}
 use lib.IntN.{ℤ, pos, _+ℤ_}
 use lib.ListN.{length}
 use lib.Signed.{_≤ℤ_}
@@ -11,7 +11,7 @@ use Rattle.std.specs.declared.option.Option.the-variants.{None}
 use Rattle.network.specs.Edits.{Edit, edit-refusal, edited}
 use Rattle.network.specs.Edits.Edit.{add, weigh, join, remove}
 use Rattle.network.specs.Limits.{WithinLimits}
-use Rattle.network.specs.Net.{Net, Nodes, count, complement, weight, boundary, lighter}
+use Rattle.network.specs.Net.{Net, Nodes, count, complement, weight, total, boundary, lighter}
 use Rattle.network.specs.Scores.{remainder, denominator, positive-denominator, Finite, AtMost}
 
 -- the node or pipe that the edit changes is there
@@ -25,6 +25,10 @@ Named net (remove p) = p < length (net .pipes)
 abbrev pub Accepted-within-limits : Type 0
 Accepted-within-limits =
     (net : Net) (e : Edit) → WithinLimits net → (edit-refusal net e ≡ None) ↔ (Named net e × WithinLimits (edited net e))
+
+-- a set and its complement weigh what all nodes weigh
+abbrev pub Sides-make-the-whole : Type 0
+Sides-make-the-whole = (net : Net) (X : Nodes) → weight net X + weight net (complement X) ≡ total net
 
 -- the boundary cost of a set is that of its complement
 abbrev pub Boundary-of-complement : Type 0

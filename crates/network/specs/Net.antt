@@ -1,8 +1,8 @@
 -- A network as lists, sets of its nodes, and what a set weighs and costs.
 -- Assumes nothing.
-use mathlib.Core.Bool.{Bool, true, not, _&&_, cond, xor}
+use mathlib.Core.Bool.{Bool, true, false, not, _&&_, cond}
 use mathlib.Core.List.{List, []}
-use Prim.Native.Nat.{ℕ, zero, suc, _+_, _-_, min}
+use Prim.Native.Nat.{ℕ, zero, suc, _+_, min}
 use lib.Dec.{eqb}
 use lib.ListN.{length, getD}
 use Rattle.std.specs.shelf.Lists.{sumBy}
@@ -50,9 +50,13 @@ unfoldable pub below : ℕ → (ℕ → ℕ) → ℕ
 below zero f = 0
 below (suc n) f = below n f + f n
 
+abbrev pub exactly-one : Bool → Bool → Bool
+exactly-one true y = not y
+exactly-one false y = y
+
 -- the pipe has exactly one end in X
 abbrev pub crosses : Nodes → Pipe → Bool
-crosses X p = xor (X (p .first)) (X (p .second))
+crosses X p = exactly-one (X (p .first)) (X (p .second))
 
 -- what the pipe adds to the boundary cost of X
 abbrev pub adds : Nodes → Pipe → ℕ
@@ -78,6 +82,6 @@ module _ (net : Net) where
   abbrev pub boundary : Nodes → ℕ
   boundary X = cost-across (net .pipes) X
 
-  -- the weight of the lighter side
+  -- the weight of the lighter of the two sides, X and its complement
   unfoldable pub lighter : Nodes → ℕ
-  lighter X = min (weight X) (total - weight X)
+  lighter X = min (weight X) (weight (complement X))

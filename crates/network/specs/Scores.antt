@@ -4,12 +4,12 @@ use mathlib.Core.Path.{_≡_}
 use Prim.Native.Nat.{ℕ, _-_, _*_}
 use lib.IntN.{ℤ, pos, _-ℤ_, _*ℤ_}
 use lib.Signed.{_<ℤ_, _≤ℤ_}
-use Rattle.network.specs.Net.{Net, Nodes, within, without, weight, total, boundary, lighter}
+use Rattle.network.specs.Net.{Net, Nodes, complement, within, without, weight, boundary, lighter}
 
 module _ (net : Net) (A : Nodes) where
-  -- the weight of what is not in the proposal A
+  -- the weight of the remainder, which is all that is not in the proposal A
   unfoldable pub remainder : ℕ
-  remainder = total net - weight net A
+  remainder = weight net (complement A)
 
   -- the weight of the part of X inside A, and of the part outside
   unfoldable pub inside : Nodes → ℕ

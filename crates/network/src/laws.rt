@@ -1,5 +1,5 @@
 // Laws of the edits and of the scores. Each function's contract is its laws; the function itself has nothing to do.
-ghost use Rattle.network.specs.Laws.{Accepted-within-limits, Boundary-of-complement, Largest-denominator, Natural-form, Opposite-denominators, Scores-ordered, Within-lighter-side};
+ghost use Rattle.network.specs.Laws.{Accepted-within-limits, Boundary-of-complement, Largest-denominator, Natural-form, Opposite-denominators, Scores-ordered, Sides-make-the-whole, Within-lighter-side};
 ghost use Rattle.network.specs.Worked.{Worked};
 
 // An edit is accepted exactly where what it changes is there and the network that it makes is within the limits.
@@ -7,9 +7,10 @@ pub fn edit_law()
     ensures { λ _. ⌜ Accepted-within-limits ⌝ }
 {}
 
-// The boundary cost of a set is that of its complement.
-pub fn boundary_law()
-    ensures { λ _. ⌜ Boundary-of-complement ⌝ }
+// A set and its complement weigh what all nodes weigh, and have the same boundary cost.
+pub fn complement_laws()
+    ensures weight { λ _. ⌜ Sides-make-the-whole ⌝ }
+    ensures boundary { λ _. ⌜ Boundary-of-complement ⌝ }
 {}
 
 // The denominators of a set and of its complement sum to 0.

@@ -4,6 +4,5 @@ mod marks;
 pub mod network;
 pub mod pipe;
 mod sums;
-
 #[cfg(test)]
 mod tests;

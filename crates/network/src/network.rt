@@ -6,6 +6,7 @@ use crate::pipe::Pipe;
 
 mod edits;
 mod makes;
+mod measures;
 mod reads;
 mod scores;
 

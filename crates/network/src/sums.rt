@@ -1,5 +1,6 @@
 ghost use mathlib.Core.Path.{_≡_};
 ghost use Prim.Native.Nat.{_*_, _+_, _<_, _≤_};
+ghost use lib.IntN.{_-ℤ_, pos};
 ghost use lib.ListN.{length};
 ghost use Rattle.network.specs.Limits.{max-nodes, max-pipes, max-weight, PipesFit, WeightsFit};
 ghost use Rattle.network.specs.Net.{adds, complement, cost-across, set-of, weight-in, within, without};
@@ -70,4 +71,13 @@ pub(crate) fn cost_across(pipes: &[Pipe], marks: &[u8]) -> u32
         sum += added_cost(*pipe, marks);
     }
     sum
+}
+
+// The product of the first two numbers less that of the last two, none over what a whole network can weigh.
+pub(crate) fn difference(a: u32, b: u32, c: u32, d: u32) -> i64
+    requires gained { ⌜ (a ≤ max-nodes * max-weight) × (b ≤ max-nodes * max-weight) ⌝ }
+    requires lost { ⌜ (c ≤ max-nodes * max-weight) × (d ≤ max-nodes * max-weight) ⌝ }
+    ensures { λ r. ⌜ r ≡ pos (a * b) -ℤ pos (c * d) ⌝ }
+{
+    i64::from(a) * i64::from(b) - i64::from(c) * i64::from(d)
 }

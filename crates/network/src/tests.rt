@@ -77,10 +77,7 @@ fn a_removed_pipe_lowers_later_numbers(rt: LibcRuntime) -> Result<(), Fail> {
     check_eq(network.remove(0), Ok(()))?;
     check_eq(network.pipes().len(), 1)?;
     check_eq(network.boundary(&[0, 0, 1]), Ok(7))?;
-    check_eq(
-        network.remove(1),
-        Err(Fault::board(Refusal::BadNodeOrPipe)),
-    )
+    check_eq(network.remove(1), Err(Fault::board(Refusal::BadNodeOrPipe)))
 }
 
 #[test]
@@ -123,10 +120,7 @@ fn scores_of_two_triangles(rt: LibcRuntime) -> Result<(), Fail> {
     }
     let proposal = [1, 1, 0, 0, 0, 0];
     check_eq(network.relative(&proposal, &proposal), Ok((6, 8)))?;
-    check_eq(
-        network.relative(&proposal, &[1, 1, 1, 0, 0, 0]),
-        Ok((1, 6)),
-    )?;
+    check_eq(network.relative(&proposal, &[1, 1, 1, 0, 0, 0]), Ok((1, 6)))?;
     check_eq(
         network.relative(&proposal, &[0, 0, 1, 1, 1, 1]),
         Ok((6, -8)),

@@ -1,8 +1,7 @@
 use mathlib.Core.List.{List}
 use mathlib.Core.Path.{sym, subst}
 use borrow.Author.Needs.{needs}
-use Prim.Native.Nat.{_<_}
-use lib.ListN.{length}
+use native.Mathlib.Omega.{arith}
 use Rattle.std.specs.Of.Vec.{vec-items}
 use Rattle.network.specs.declared.pipe.Pipe.{Pipe}
 use Rattle.network.specs.Limits.{Limits}
@@ -12,6 +11,5 @@ use Rattle.network.proofs.network.Network.remove.Needs as need
 pub ghost-self : need.ghost-self
 ghost-self c =
     let ws = vec-items (c .args .self .now .weights) in
-    let there : c .args .pipe < length (vec-items (c .args .self .now .pipes)) = search needs in
-    let after = subst (λ (ps : List Pipe). Limits ws ps) (sym (c .remove .ensures .items)) (remove-keeps ws _ _ (c .args .self .now .limits) there) in
+    let after = subst (λ (ps : List Pipe). Limits ws ps) (sym (c .remove .ensures .items)) (remove-keeps ws _ _ (c .args .self .now .limits) (search needs)) in
     (search needs, (after, tt))
