@@ -65,7 +65,7 @@ last-pipe n ps p h =
 pub accepted-within-limits : Accepted-within-limits
 accepted-within-limits net (add w) h = (
   (λ e. let (room, f) = passed _ _ _ e in
-      (tt, add-keeps _ _ w h (leb-false _ _ room) (within-limits _ _ w (passed _ _ _ f .0)))),
+      (tt, add-keeps _ _ _ w refl h (leb-false _ _ room) (within-limits _ _ w (passed _ _ _ f .0)))),
   (λ k. let (_, l) = k in
       let f = last-weight (net .weights) w (l .2) in
       passes _ _ _ (lt-leb _ _ (omega (arith, l .0, length-append (net .weights) (w ∷ [])))) (passes _ _ _ (not-outside _ _ w (f .0) (f .1)) refl)),
@@ -82,11 +82,11 @@ accepted-within-limits net (join a b c) h = (
       let (ends, g) = passed _ _ _ f in
       let (p, q, apart) = good-ends _ a b ends in
       let (low, high) = within-limits _ _ c (passed _ _ _ g .0) in
-      (tt, join-keeps _ _ _ h (leb-false _ _ room) (p, q, apart, low, high))),
+      (tt, join-keeps _ _ _ _ refl h (leb-false _ _ room) (p, q, apart, low, high))),
   (λ k. let (_, l) = k in
       let f = last-pipe (length (net .weights)) (net .pipes) (record { first = a; second = b; cost = c }) (l .3) in
       passes _ _ _ (lt-leb _ _ (omega (arith, l .1, length-append (net .pipes) (record { first = a; second = b; cost = c } ∷ []))))
       (passes _ _ _ (not-bad _ a b (f .0) (f .1) (f .2)) (passes _ _ _ (not-outside _ _ c (f .3) (f .4)) refl))),
 )
 accepted-within-limits net (remove p) h =
-    ((λ e. let there = leb-false _ _ (passed _ _ _ e .0) in (there, remove-keeps _ _ p h there)), (λ k. passes _ _ _ (lt-leb _ _ (k .0)) refl))
+    ((λ e. let there = leb-false _ _ (passed _ _ _ e .0) in (there, remove-keeps _ _ _ p refl h)), (λ k. passes _ _ _ (lt-leb _ _ (k .0)) refl))

@@ -4,8 +4,7 @@ use mathlib.Core.List.{List, [], _∷_, _++_}
 use mathlib.Core.Path.{_≡_}
 use Prim.Native.Nat.{ℕ, suc, _+_, _<_, _≤_}
 use native.Mathlib.Omega.{arith}
-use lib.ListN.{length, set, take, drop, length-append, length-set}
-use Rattle.std.proofs.shelf.Edits.{length-removed}
+use lib.ListN.{length, set, take, drop, length-append, length-drop, length-set, length-take}
 use Rattle.std.proofs.shelf.Elements.{all-getD, all-from-getD, all-push, all-set, all-append, all-take, all-drop}
 use Rattle.std.specs.Holes.{removed}
 use Rattle.network.specs.declared.pipe.Pipe.{Pipe}
@@ -31,20 +30,23 @@ pipes-removed n ps i h k l =
 pipes-more : (m n : ℕ) (ps : List Pipe) → m ≤ n → PipesFit m ps → PipesFit n ps
 pipes-more m n ps le h k l = let f = h k l in (omega arith, omega arith, f .2, f .3, f .4)
 
-pub add-keeps : (ws : List ℕ) (ps : List Pipe) (w : ℕ) → Limits ws ps → length ws < max-nodes → WeightFits w → Limits (ws ++ w ∷ []) ps
-add-keeps ws ps w h room f =
-    let e : length (ws ++ w ∷ []) ≡ length ws + 1 = length-append ws (w ∷ []) in
-    (omega arith, h .1, weights-push ws w (h .2) f, pipes-more (length ws) (length (ws ++ w ∷ [])) ps (omega arith) (h .3))
+-- each edit of the lists keeps the limits
+pub add-keeps : (ws vs : List ℕ) (ps : List Pipe) (w : ℕ) → vs ≡ ws ++ w ∷ [] → Limits ws ps → length ws < max-nodes → WeightFits w → Limits vs ps
+add-keeps ws vs ps w e h room f =
+    let n : length (ws ++ w ∷ []) ≡ length ws + 1 = length-append ws (w ∷ []) in
+    rw e (omega arith, h .1, weights-push ws w (h .2) f, pipes-more (length ws) (length (ws ++ w ∷ [])) ps (omega arith) (h .3))
 
 pub weigh-keeps : (ws : List ℕ) (ps : List Pipe) (v w : ℕ) → Limits ws ps → WeightFits w → Limits (set ws v w) ps
 weigh-keeps ws ps v w h f =
-    let e : length (set ws v w) ≡ length ws = length-set ws v w in
+    let n : length (set ws v w) ≡ length ws = length-set ws v w in
     (omega arith, h .1, weights-set ws v w (h .2) f, pipes-more (length ws) (length (set ws v w)) ps (omega arith) (h .3))
 
-pub join-keeps : (ws : List ℕ) (ps : List Pipe) (p : Pipe) → Limits ws ps → length ps < max-pipes → PipeFits (length ws) p → Limits ws (ps ++ p ∷ [])
-join-keeps ws ps p h room f =
-    let e : length (ps ++ p ∷ []) ≡ length ps + 1 = length-append ps (p ∷ []) in
-    (h .0, omega arith, h .2, pipes-push (length ws) ps p (h .3) f)
+pub join-keeps : (ws : List ℕ) (ps qs : List Pipe) (p : Pipe) → qs ≡ ps ++ p ∷ [] → Limits ws ps → length ps < max-pipes → PipeFits (length ws) p → Limits ws qs
+join-keeps ws ps qs p e h room f =
+    let n : length (ps ++ p ∷ []) ≡ length ps + 1 = length-append ps (p ∷ []) in
+    rw e (h .0, omega arith, h .2, pipes-push (length ws) ps p (h .3) f)
 
-pub remove-keeps : (ws : List ℕ) (ps : List Pipe) (i : ℕ) → Limits ws ps → i < length ps → Limits ws (removed ps i)
-remove-keeps ws ps i h l = (h .0, omega (arith, length-removed ps i l), h .2, pipes-removed (length ws) ps i (h .3))
+pub remove-keeps : (ws : List ℕ) (ps qs : List Pipe) (i : ℕ) → qs ≡ removed ps i → Limits ws ps → Limits ws qs
+remove-keeps ws ps qs i e h =
+    let n : length (take i ps ++ drop (suc i) ps) ≤ length ps = simp (length-append, length-take, length-drop) (omega arith) in
+    rw e (h .0, omega arith, h .2, pipes-removed (length ws) ps i (h .3))

@@ -1,11 +1,8 @@
-use mathlib.Core.List.{List}
-use mathlib.Core.Path.{sym, subst}
 use borrow.Author.Needs.{needs}
 use Prim.Native.Nat.{_<_}
 use lib.ListN.{length}
 use Rattle.std.specs.Of.Vec.{vec-items}
-use Rattle.network.specs.declared.pipe.Pipe.{Pipe}
-use Rattle.network.specs.Limits.{Limits, PipeFits, max-pipes}
+use Rattle.network.specs.Limits.{PipeFits, max-pipes}
 use Rattle.network.proofs.Keeps.{join-keeps}
 use Rattle.network.proofs.network.Network.join.Needs as need
 
@@ -14,5 +11,4 @@ ghost-self c =
     let ws = vec-items (c .args .self .now .weights) in
     let room : length (vec-items (c .args .self .now .pipes)) < max-pipes = search needs in
     let fits : PipeFits (length ws) (record { first = c .args .first; second = c .args .second; cost = c .args .cost }) = search needs in
-    let after = subst (λ (ps : List Pipe). Limits ws ps) (sym (c .push-reserved .ensures .items)) (join-keeps ws _ _ (c .args .self .now .limits) room fits) in
-    (search needs, (after, tt))
+    (search needs, (join-keeps ws _ _ _ (c .push-reserved .ensures .items) (c .args .self .now .limits) room fits, tt))
