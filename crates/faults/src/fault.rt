@@ -9,6 +9,7 @@ use crate::layer::LayerPartialEq;
 use crate::refusal::Refusal;
 use crate::refusal::RefusalDebug;
 use crate::refusal::RefusalPartialEq;
+use std::error::Error;
 use std::fmt;
 
 // What a call that refuses answers: why, in which layer, and where.
@@ -54,3 +55,5 @@ pub impl fmt::Display for Fault as FaultDisplay {
         )
     }
 }
+
+pub impl Error for Fault as FaultError {}
