@@ -35,10 +35,8 @@ wording BadFlowNetwork = codes "a flow network is over the limits, a list or mar
 wording CapacityTooLarge = codes "the capacities of a flow network sum to more than 2^62"
 wording NotACommand = codes "the line is over 400 bytes or is no command"
 
-abbrev pub sentence : List ℕ → ℕ → List ℕ → ℕ → List ℕ
-sentence words n layer place =
-    words ++ (codes " (refusal " ++ (decimal n ++ (codes ", layer " ++ (layer ++ (codes ", place " ++ (decimal place ++ codes ")"))))))
-
 -- the text of a fault, as "the phase does not allow the call (refusal 10, layer board, place 0)"
 abbrev pub fault-text : Fault → List ℕ
-fault-text f = sentence (wording (f .refusal)) (number (f .refusal)) (layer-name (f .layer)) (f .place)
+fault-text f =
+    wording (f .refusal)
+    ++ (codes " (refusal " ++ (decimal (number (f .refusal)) ++ (codes ", layer " ++ (layer-name (f .layer) ++ (codes ", place " ++ (decimal (f .place) ++ codes ")"))))))

@@ -1,6 +1,6 @@
 -- Sums over the nodes, as a loop makes them.
 -- Assumes nothing.
-use mathlib.Core.Bool.{Bool, true, false}
+use mathlib.Core.Bool.{Bool, false, _&&_}
 use mathlib.Core.List.{List}
 use mathlib.Core.Path.{_≡_, refl, subst}
 use Prim.Native.Nat.{ℕ, _+_, _*_, _≤_}
@@ -25,6 +25,9 @@ below-more : (f : ℕ → ℕ) (n : ℕ) → below (n + 1) f ≡ below n f + f n
 unfolding below
 below-more f n = rw add-one
 
+at-most-once : (p q : Bool) (w : ℕ) → (p && q) ≡ false → when p w + when q w ≤ w
+at-most-once p q w e = grind arith
+
 -- x and y are the weights that the sets X and Y, which share no node, have below n
 pub record Tally (X Y : Nodes) (ws : List ℕ) (n x y : ℕ) : Type 0 where
   pub first : x ≡ below n (λ v. when (X v) (getD ws v 0))
@@ -35,14 +38,14 @@ module _ (X Y : Nodes) (ws : List ℕ) where
   pub tally-none : Tally X Y ws 0 0 0
   tally-none = record { first = rw below-none; second = rw below-none; bound = omega arith }
 
-  pub tally-first : (n x y x′ y′ : ℕ) → X n ≡ true → Y n ≡ false → WeightFits (getD ws n 0) → x′ ≡ x + getD ws n 0 → y′ ≡ y → Tally X Y ws n x y → Tally X Y ws (n + 1) x′ y′
-  tally-first n x y x′ y′ p q f d e t = record { first = rw (below-more, p) (omega arith); second = rw (below-more, q) (omega arith); bound = omega arith }
-
-  pub tally-second : (n x y x′ y′ : ℕ) → X n ≡ false → Y n ≡ true → WeightFits (getD ws n 0) → x′ ≡ x → y′ ≡ y + getD ws n 0 → Tally X Y ws n x y → Tally X Y ws (n + 1) x′ y′
-  tally-second n x y x′ y′ p q f d e t = record { first = rw (below-more, p) (omega arith); second = rw (below-more, q) (omega arith); bound = omega arith }
-
-  pub tally-neither : (n x y x′ y′ : ℕ) → X n ≡ false → Y n ≡ false → x′ ≡ x → y′ ≡ y → Tally X Y ws n x y → Tally X Y ws (n + 1) x′ y′
-  tally-neither n x y x′ y′ p q d e t = record { first = rw (below-more, p) (omega arith); second = rw (below-more, q) (omega arith); bound = omega arith }
+  -- one node more: p and q say whether it is in X and in Y
+  pub tally-more : (n x y x′ y′ : ℕ) (p q : Bool) → X n ≡ p → Y n ≡ q → (p && q) ≡ false → WeightFits (getD ws n 0)
+      → x′ ≡ x + when p (getD ws n 0) → y′ ≡ y + when q (getD ws n 0) → Tally X Y ws n x y → Tally X Y ws (n + 1) x′ y′
+  tally-more n x y x′ y′ p q d e apart f g h t = record {
+    first = rw (below-more, d) (omega arith);
+    second = rw (below-more, e) (omega arith);
+    bound = omega (arith, at-most-once p q (getD ws n 0) apart);
+  }
 
   -- the whole sums, at the end of the loop
   pub tally-all : (n x y : ℕ) → n ≡ length ws → length ws ≤ max-nodes → Tally X Y ws n x y

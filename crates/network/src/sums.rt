@@ -74,7 +74,7 @@ pub(crate) fn cost_across(pipes: &[Pipe], marks: &[u8]) -> u32
 }
 
 // The product of the first two numbers less that of the last two, none over what a whole network can weigh.
-pub(crate) fn difference(a: u32, b: u32, c: u32, d: u32) -> i64
+pub(crate) fn difference_of_products(a: u32, b: u32, c: u32, d: u32) -> i64
     requires gained { ⌜ (a ≤ max-nodes * max-weight) × (b ≤ max-nodes * max-weight) ⌝ }
     requires lost { ⌜ (c ≤ max-nodes * max-weight) × (d ≤ max-nodes * max-weight) ⌝ }
     ensures { λ r. ⌜ r ≡ pos (a * b) -ℤ pos (c * d) ⌝ }

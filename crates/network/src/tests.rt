@@ -7,7 +7,7 @@ use faults::layer::Layer;
 use faults::refusal::Refusal;
 use std::test::*;
 
-// A network of so many nodes of weight 1, with a pipe of cost 1 between the first two where there are two.
+// A network of so many nodes of weight 1, and so many pipes of cost 1 between the first two.
 fn joined(heap: std::alloc::Global, nodes: usize, pipes: usize) -> Result<Network, Fail> {
     let mut network = Network::new(heap)?;
     for v in 0..nodes {

@@ -6,6 +6,7 @@ ghost use Rattle.network.specs.View.{view};
 use faults::fault::FaultDisplay;
 use faults::fault::FaultError;
 use network::network::Network;
+use std::env;
 use std::error::AnyError;
 use std::fmt;
 use std::io;
@@ -140,6 +141,26 @@ fn walk(rt: &LibcRuntime) -> Result<(), AnyError> {
     compare(rt, &town, corner, rest)
 }
 
+fn help(rt: &impl Print) -> io::Result<()> {
+    println!(rt, "usage: walkthrough")?;
+    println!(
+        rt,
+        "Builds a small water network by edits, some of them refused,"
+    )?;
+    println!(
+        rt,
+        "appraises two proposed districts of it, and prints each step."
+    )
+}
+
+fn run(rt: &LibcRuntime) -> Result<(), AnyError> {
+    match env::args(rt)?.nth(1) {
+        Some(_) => help(rt)?,
+        None => walk(rt)?,
+    }
+    Ok(())
+}
+
 fn main(rt: LibcRuntime) -> Result<(), AnyError> {
-    rt.report(walk(&rt))
+    rt.report(run(&rt))
 }

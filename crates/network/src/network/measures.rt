@@ -6,7 +6,7 @@ ghost use Rattle.network.specs.Net.{lighter, set-of};
 ghost use Rattle.network.specs.Scores.{denominator};
 ghost use Rattle.network.specs.View.{view};
 use super::Network;
-use crate::sums::difference;
+use crate::sums::difference_of_products;
 use crate::sums::parts;
 use crate::sums::sides;
 
@@ -29,6 +29,6 @@ impl Network {
         let weights = self.weights.as_slice();
         let (proposed, remainder) = sides(weights, proposal);
         let (inside, outside) = parts(weights, proposal, marks);
-        difference(remainder, inside, proposed, outside)
+        difference_of_products(remainder, inside, proposed, outside)
     }
 }

@@ -1,8 +1,8 @@
 use native.Mathlib.Omega.{arith}
-use mathlib.Core.Bool.{not}
-use mathlib.Core.Path.{ap}
+use mathlib.Core.Bool.{true, false, not}
+use mathlib.Core.Path.{ap, refl}
 use Rattle.std.proofs.shelf.Tests.{eq-eqb, ne-eqb}
-use Rattle.network.proofs.Adding.{tally-all, tally-none, tally-first, tally-second}
+use Rattle.network.proofs.Adding.{tally-all, tally-more, tally-none}
 use Rattle.network.proofs.sums.sides.Needs as need
 use Rattle.network.proofs.sums.sides.Needs.{then-marks-v-eq1, else-marks-v-eq1}
 
@@ -15,10 +15,10 @@ loop-v-again c =
     elim (c .if-marks-v-eq1 .came) [
       | then-marks-v-eq1 w ↦
           let e = eq-eqb _ _ (w .if-marks-v-eq1 .taken) in
-          tally-first _ _ _ _ _ _ _ _ e (ap not e) fits (w .marked-is) (w .others-is) (c .loop-v .inv)
+          tally-more _ _ _ _ _ _ _ _ true false e (ap not e) refl fits (w .marked-is) (omega (arith, w .others-is)) (c .loop-v .inv)
       | else-marks-v-eq1 w ↦
           let e = ne-eqb _ _ (w .if-marks-v-eq1 .left) in
-          tally-second _ _ _ _ _ _ _ _ e (ap not e) fits (w .marked-is) (w .others-is) (c .loop-v .inv)
+          tally-more _ _ _ _ _ _ _ _ false true e (ap not e) refl fits (omega (arith, w .marked-is)) (w .others-is) (c .loop-v .inv)
     ]
 
 pub returns : need.returns

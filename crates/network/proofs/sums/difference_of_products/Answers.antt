@@ -3,7 +3,7 @@ use mir.Syntax.{w64}
 use mir.Val.{toZ, ofZ}
 use Prim.Native.Nat.{_*_}
 use Rattle.network.proofs.Signing.{Natural, fits, product, difference-fits, difference-is}
-use Rattle.network.proofs.sums.difference.Needs as need
+use Rattle.network.proofs.sums.difference_of_products.Needs as need
 
 gained : (c : need.After-from-4) → Natural (toZ w64 (ofZ w64 (c .from .result)) *ℤ toZ w64 (ofZ w64 (c .from-2 .result))) (c .args .a * c .args .b)
 gained c = product (c .from .ensures) (c .from-2 .ensures) (c .pre .gained .0) (c .pre .gained .1)
