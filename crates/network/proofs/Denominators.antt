@@ -4,8 +4,8 @@ use mathlib.Core.Bool.{Bool, true, false, not, _&&_}
 use mathlib.Core.List.{List, [], _∷_}
 use mathlib.Core.Logic.{⊎-elim}
 use mathlib.Core.Path.{_≡_, refl, ap, sym, subst}
-use Prim.Native.Nat.{ℕ, _+_, _-_, _*_, _≤_, _<_, min}
-use native.Mathlib.Nat.{mul-le-mul-left, mul-le-mul-right}
+use Prim.Native.Nat.{ℕ, _+_, _-_, _*_, _≤_, min}
+use native.Mathlib.Nat.{mul-le-mul-right}
 use native.Mathlib.Omega.{arith}
 use lib.IntN.{ℤ, pos, _+ℤ_, _-ℤ_}
 use lib.Signed.{_≤ℤ_}
@@ -15,7 +15,7 @@ use Rattle.std.proofs.shelf.Tests.{cases-lt}
 use Rattle.std.specs.Numbers.{maxZ}
 use Rattle.std.specs.shelf.Lists.{sumBy}
 use Rattle.network.specs.declared.pipe.Pipe.{Pipe}
-use Rattle.network.specs.Laws.{Boundary-of-complement, Largest, Largest-denominator, Natural-form, Opposite-denominators, Within-lighter-side}
+use Rattle.network.specs.Laws.{Boundary-of-complement, Largest-denominator, Natural-form, Opposite-denominators, Within-lighter-side}
 use Rattle.network.specs.Net.{Net, Nodes, adds, complement, cost-across, exactly-one, lighter, weight, when, without}
 use Rattle.network.specs.Scores.{denominator, inside, outside, positive-denominator, remainder}
 use Rattle.network.proofs.Weights.{insides, joined, outsides, parts}

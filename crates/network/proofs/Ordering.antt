@@ -1,16 +1,14 @@
 -- The order of finite relative scores.
 -- Assumes nothing.
 use mathlib.Core.Logic.{_⊎_, inl, inr, ⊎-elim}
-use mathlib.Core.Path.{_≡_}
-use Prim.Native.Nat.{ℕ, _+_, _*_, _≤_, _<_}
+use Prim.Native.Nat.{ℕ, _*_, _≤_, _<_}
 use native.Mathlib.Nat.{le-of-mul-le-mul-left, mul-le-mul-left}
 use native.Mathlib.Omega.{arith}
 use lib.IntN.{ℤ, pos, negsuc}
 use lib.Signed.{_<ℤ_, _≤ℤ_}
 use Rattle.std.proofs.shelf.Signed.{ints}
 use Rattle.std.proofs.shelf.Tests.{cases-lt}
-use Rattle.network.specs.Laws.{Ordered, Scores-ordered}
-use Rattle.network.specs.Scores.{AtMost, Finite}
+use Rattle.network.specs.Laws.{Scores-ordered}
 
 positive : (n : ℕ) → pos 0 <ℤ pos n → 0 < n
 positive n h = omega (arith, ints)

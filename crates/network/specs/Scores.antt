@@ -1,6 +1,5 @@
 -- The scores of a set of nodes: the quotient score, and the score relative to a proposal.
 -- Assumes nothing.
-use mathlib.Core.Path.{_≡_}
 use Prim.Native.Nat.{ℕ, _-_, _*_}
 use lib.IntN.{ℤ, pos, _-ℤ_, _*ℤ_}
 use lib.Signed.{_<ℤ_, _≤ℤ_}

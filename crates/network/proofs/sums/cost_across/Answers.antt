@@ -4,7 +4,7 @@ use Prim.Native.Nat.{_≤_}
 use lib.ListN.{getD}
 use lib.Seq.{take-all}
 use Rattle.std.proofs.shelf.Sums.{sumBy-more}
-use Rattle.network.specs.Limits.{no-pipe, PipeFits, max-cost}
+use Rattle.network.specs.Limits.{no-pipe, max-cost}
 use Rattle.network.specs.Net.{adds, cost-across, set-of}
 use Rattle.network.proofs.Adding.{adds-le}
 use Rattle.network.proofs.sums.cost_across.Needs as need
