@@ -1,25 +1,23 @@
 -- That an edit is accepted exactly where it keeps the limits.
 -- Assumes nothing.
 use mathlib.Core.Bool.{Bool, true, false}
-use mathlib.Core.List.{List, [], _∷_, _++_}
-use mathlib.Core.Path.{_≡_, refl, subst}
-use Prim.Native.Nat.{ℕ, _+_, _≤_, _<_}
+use mathlib.Core.List.{[], _∷_}
+use mathlib.Core.Path.{_≡_, refl}
+use Prim.Native.Nat.{ℕ, _≤_, _<_}
 use native.Mathlib.Omega.{arith}
-use lib.ListN.{length, set, length-append, length-set}
-use lib.Seq.{getD-append-seam, getD-set-same}
+use lib.ListN.{length, length-append}
 use Rattle.std.proofs.shelf.Tests.{leb-false, ltb-false, lt-leb, le-ltb, ne-eqb, eqb-false, or-from, or-parts}
 use Rattle.std.specs.declared.option.Option.{Option}
 use Rattle.std.specs.declared.option.Option.the-variants.{Some, None}
 use Rattle.faults.specs.Faults.{board-fault}
 use Rattle.faults.specs.declared.fault.Fault.{Fault}
 use Rattle.faults.specs.declared.refusal.Refusal.{Refusal}
-use Rattle.network.specs.declared.pipe.Pipe.{Pipe}
 use Rattle.network.specs.Edits.{bad-ends, outside-limits}
 use Rattle.network.specs.Edits.Edit.{add, weigh, join, remove}
 use Rattle.network.specs.Laws.{Accepted-within-limits}
-use Rattle.network.specs.Limits.{PipeFits, PipesFit, WeightFits, WeightsFit, no-pipe}
+use Rattle.network.specs.Limits.{PipeFits, WeightFits, no-pipe}
 use Rattle.network.specs.Refusals.{refuse-if}
-use Rattle.network.proofs.Keeps.{add-keeps, weigh-keeps, join-keeps, remove-keeps}
+use Rattle.network.proofs.Keeps.{add-keeps, join-keeps, pushed-fits, remove-keeps, weigh-keeps, written-fits}
 
 refused : (f : Fault) → Some f ≡ None → ⊥
 refused f e = let z : _≡_ {A = ℕ} 0 1 = cc in omega arith
@@ -48,33 +46,19 @@ good-ends n a b e =
 not-bad : (n a b : ℕ) → a < n → b < n → (a ≡ b → ⊥) → bad-ends n a b ≡ false
 not-bad n a b p q r = or-from _ _ (lt-leb n a p) (or-from _ _ (lt-leb n b q) (ne-eqb a b r))
 
--- what is added last, or set, fits too
-last-weight : (ws : List ℕ) (w : ℕ) → WeightsFit (ws ++ w ∷ []) → WeightFits w
-last-weight ws w h =
-    let l : length ws < length (ws ++ w ∷ []) = omega (arith, length-append ws (w ∷ [])) in
-    subst WeightFits (getD-append-seam ws w [] 0) (h (length ws) l)
-
-set-weight : (ws : List ℕ) (v w : ℕ) → v < length ws → WeightsFit (set ws v w) → WeightFits w
-set-weight ws v w l h = subst WeightFits (getD-set-same ws v w 0 l) (h v (omega (arith, length-set ws v w)))
-
-last-pipe : (n : ℕ) (ps : List Pipe) (p : Pipe) → PipesFit n (ps ++ p ∷ []) → PipeFits n p
-last-pipe n ps p h =
-    let l : length ps < length (ps ++ p ∷ []) = omega (arith, length-append ps (p ∷ [])) in
-    subst (PipeFits n) (getD-append-seam ps p [] no-pipe) (h (length ps) l)
-
 pub accepted-within-limits : Accepted-within-limits
 accepted-within-limits net (add w) h = (
   (λ e. let (room, f) = passed _ _ _ e in
       (tt, add-keeps _ _ _ w refl h (leb-false _ _ room) (within-limits _ _ w (passed _ _ _ f .0)))),
   (λ k. let (_, l) = k in
-      let f = last-weight (net .weights) w (l .2) in
+      let f = pushed-fits WeightFits 0 (net .weights) w (l .2) in
       passes _ _ _ (lt-leb _ _ (omega (arith, l .0, length-append (net .weights) (w ∷ [])))) (passes _ _ _ (not-outside _ _ w (f .0) (f .1)) refl)),
 )
 accepted-within-limits net (weigh v w) h = (
   (λ e. let (f, there) = passed _ _ _ e in
       (leb-false _ _ (passed _ _ _ there .0), weigh-keeps _ _ v w h (within-limits _ _ w f))),
   (λ k. let (there, l) = k in
-      let f = set-weight (net .weights) v w there (l .2) in
+      let f = written-fits WeightFits 0 (net .weights) v w there (l .2) in
       passes _ _ _ (not-outside _ _ w (f .0) (f .1)) (passes _ _ _ (lt-leb _ _ there) refl)),
 )
 accepted-within-limits net (join a b c) h = (
@@ -84,7 +68,7 @@ accepted-within-limits net (join a b c) h = (
       let (low, high) = within-limits _ _ c (passed _ _ _ g .0) in
       (tt, join-keeps _ _ _ _ refl h (leb-false _ _ room) (p, q, apart, low, high))),
   (λ k. let (_, l) = k in
-      let f = last-pipe (length (net .weights)) (net .pipes) (record { first = a; second = b; cost = c }) (l .3) in
+      let f = pushed-fits (PipeFits (length (net .weights))) no-pipe (net .pipes) (record { first = a; second = b; cost = c }) (l .3) in
       passes _ _ _ (lt-leb _ _ (omega (arith, l .1, length-append (net .pipes) (record { first = a; second = b; cost = c } ∷ []))))
       (passes _ _ _ (not-bad _ a b (f .0) (f .1) (f .2)) (passes _ _ _ (not-outside _ _ c (f .3) (f .4)) refl))),
 )

@@ -14,17 +14,17 @@ use Rattle.network.specs.Limits.{WithinLimits}
 use Rattle.network.specs.Net.{Net, Nodes, count, complement, weight, total, boundary, lighter}
 use Rattle.network.specs.Scores.{remainder, denominator, positive-denominator, Finite, AtMost}
 
--- the node or pipe that the edit changes is there
-abbrev pub Named : Net → Edit → Type 0
-Named net (add w) = Unit {0}
-Named net (weigh v w) = v < count net
-Named net (join a b c) = Unit {0}
-Named net (remove p) = p < length (net .pipes)
+-- the node or pipe that the edit changes exists; a new one need not
+abbrev pub TargetExists : Net → Edit → Type 0
+TargetExists net (add w) = Unit {0}
+TargetExists net (weigh v w) = v < count net
+TargetExists net (join a b c) = Unit {0}
+TargetExists net (remove p) = p < length (net .pipes)
 
 -- an edit is accepted exactly where what it changes is there and the network that it makes is within the limits
 abbrev pub Accepted-within-limits : Type 0
 Accepted-within-limits =
-    (net : Net) (e : Edit) → WithinLimits net → (edit-refusal net e ≡ None) ↔ (Named net e × WithinLimits (edited net e))
+    (net : Net) (e : Edit) → WithinLimits net → (edit-refusal net e ≡ None) ↔ (TargetExists net e × WithinLimits (edited net e))
 
 -- a set and its complement weigh what all nodes weigh
 abbrev pub Sides-make-the-whole : Type 0

@@ -50,6 +50,7 @@ unfoldable pub below : ℕ → (ℕ → ℕ) → ℕ
 below zero f = 0
 below (suc n) f = below n f + f n
 
+-- one of the two holds, and not both
 abbrev pub exactly-one : Bool → Bool → Bool
 exactly-one true y = not y
 exactly-one false y = y

@@ -29,7 +29,8 @@ module _ (net : Net) (A : Nodes) where
 abbrev pub quotient : Net → Nodes → ℕ × ℕ
 quotient net X = (boundary net X, lighter net X)
 
--- the score of X relative to A is the first number over the second, where that is positive, and else infinite
+-- the score of X relative to A is the remainder times the first number over the second, where the second is positive, and
+-- else infinite; the remainder is the same for all sets, so it plays no part in their order
 abbrev pub relative : Net → Nodes → Nodes → ℕ × ℤ
 relative net A X = (boundary net X, denominator net A X)
 

@@ -18,6 +18,7 @@ fn good_marks(marks: &[u8]) -> usize
     marks.len()
 }
 
+// The fault of marks at this place.
 fn bad_marks(place: usize) -> Fault
     ensures { λ r. ⌜ r ≡ bad-marks place ⌝ }
 {

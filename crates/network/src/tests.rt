@@ -5,10 +5,11 @@ use faults::fault::FaultDebug;
 use faults::fault::FaultPartialEq;
 use faults::layer::Layer;
 use faults::refusal::Refusal;
+use std::alloc::Global;
 use std::test::*;
 
 // A network of so many nodes of weight 1, and so many pipes of cost 1 between the first two.
-fn joined(heap: std::alloc::Global, nodes: usize, pipes: usize) -> Result<Network, Fail> {
+fn joined(heap: Global, nodes: usize, pipes: usize) -> Result<Network, Fail> {
     let mut network = Network::new(heap)?;
     for v in 0..nodes {
         check_eq(network.add_node(1), Ok(v))?;

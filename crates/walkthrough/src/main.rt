@@ -111,7 +111,7 @@ fn appraise(rt: &impl Print, town: &Network, district: District) -> Result<(), A
 }
 
 // Prints the score of a set of nodes relative to a proposal.
-fn compare(
+fn relate(
     rt: &impl Print,
     town: &Network,
     proposal: District,
@@ -137,8 +137,8 @@ fn walk(rt: &LibcRuntime) -> Result<(), AnyError> {
     };
     appraise(rt, &town, corner)?;
     appraise(rt, &town, triangle)?;
-    compare(rt, &town, corner, triangle)?;
-    compare(rt, &town, corner, rest)
+    relate(rt, &town, corner, triangle)?;
+    relate(rt, &town, corner, rest)
 }
 
 fn help(rt: &impl Print) -> io::Result<()> {

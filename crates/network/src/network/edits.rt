@@ -3,17 +3,14 @@ ghost use Rattle.network.specs.Edits.{add-answer, after-edit, join-answer, rem
 ghost use Rattle.network.specs.Edits.Edit.{add, join, remove, weigh};
 ghost use Rattle.network.specs.View.{view};
 use super::Network;
+use crate::limits::MAX_COST;
+use crate::limits::MAX_NODES;
+use crate::limits::MAX_PIPES;
+use crate::limits::MIN_COST;
+use crate::limits::check_weight;
 use crate::pipe::Pipe;
 use faults::fault::Fault;
 use faults::refusal::Refusal;
-
-const MAX_NODES: usize = 128;
-
-const MAX_PIPES: usize = 512;
-
-const MAX_WEIGHT: u32 = 4_000;
-
-const MAX_COST: u32 = 40_000;
 
 impl Network {
     // Adds a node of this weight, and answers its number.
@@ -25,9 +22,7 @@ impl Network {
         if node >= MAX_NODES {
             return Err(Fault::board(Refusal::TooManyNodesOrPipes));
         }
-        if weight == 0 || weight > MAX_WEIGHT {
-            return Err(Fault::board(Refusal::WeightOutOfRange));
-        }
+        check_weight(weight)?;
         self.weights.push_reserved(weight);
         Ok(node)
     }
@@ -37,9 +32,7 @@ impl Network {
         ensures answer { λ r. ⌜ r ≡ weigh-answer (view (now (self .entry))) node weight ⌝ }
         ensures after { λ _. ⌜ view (now (self .exit)) ≡ after-edit (view (now (self .entry))) (weigh node weight) ⌝ }
     {
-        if weight == 0 || weight > MAX_WEIGHT {
-            return Err(Fault::board(Refusal::WeightOutOfRange));
-        }
+        check_weight(weight)?;
         if node >= self.weights.len() {
             return Err(Fault::board(Refusal::BadNodeOrPipe));
         }
@@ -60,7 +53,7 @@ impl Network {
         if first >= nodes || second >= nodes || first == second {
             return Err(Fault::board(Refusal::BadNodeOrPipe));
         }
-        if cost == 0 || cost > MAX_COST {
+        if cost < MIN_COST || cost > MAX_COST {
             return Err(Fault::board(Refusal::CostOutOfRange));
         }
         self.pipes.push_reserved(Pipe {

@@ -3,6 +3,8 @@ ghost use Rattle.std.specs.Vec.{made};
 ghost use Rattle.network.specs.Net.{empty};
 ghost use Rattle.network.specs.View.{view};
 use super::Network;
+use crate::limits::MAX_NODES;
+use crate::limits::MAX_PIPES;
 use std::alloc::AllocError;
 use std::alloc::Global;
 
@@ -11,8 +13,8 @@ impl Network {
     pub fn new(heap: Global) -> Result<Network, AllocError>
         ensures { λ r. ⌜ made r (λ network. view network ≡ empty) ⌝ }
     {
-        let weights = Vec::with_capacity(heap, 128)?;
-        let pipes = Vec::with_capacity(heap, 512)?;
+        let weights = Vec::with_capacity(heap, MAX_NODES)?;
+        let pipes = Vec::with_capacity(heap, MAX_PIPES)?;
         Ok(Network { weights, pipes })
     }
 }
