@@ -2,7 +2,8 @@ ghost use mathlib.Core.Path.{_≡_};
 ghost use Rattle.network.specs.Answers.{boundary-answer, check-answer, quotient-answer, relative-answer, weight-answer};
 ghost use Rattle.network.specs.View.{view};
 use super::Network;
-use crate::marks::check_marks;
+use crate::marks::bad_marks;
+use crate::marks::good_marks;
 use crate::sums::cost_across;
 use crate::sums::sides;
 use faults::fault::Fault;
@@ -12,7 +13,15 @@ impl Network {
     pub fn check_marks(&self, marks: &[u8]) -> Result<(), Fault>
         ensures { λ r. ⌜ r ≡ check-answer (view (now (self .entry))) (now (marks .entry)) ⌝ }
     {
-        check_marks(marks, self.weights.len())
+        let nodes = self.weights.len();
+        if marks.len() != nodes {
+            return Err(bad_marks(marks.len()));
+        }
+        let good = good_marks(marks);
+        if good != nodes {
+            return Err(bad_marks(good));
+        }
+        Ok(())
     }
 
     // The weight of the marked nodes.
