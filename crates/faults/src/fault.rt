@@ -1,5 +1,5 @@
 ghost use mathlib.Core.Path.{_≡_};
-ghost use Rattle.faults.specs.Faults.{board-fault};
+ghost use Rattle.faults.specs.Faults.{board-fault, file-fault};
 ghost use Rattle.faults.specs.Numbers.{number};
 ghost use Rattle.faults.specs.Words.{fault-text};
 ghost use Rattle.std.specs.declared.option.Option.the-variants.{Some};
@@ -30,6 +30,17 @@ impl Fault {
             refusal,
             layer: Layer::Board,
             place: 0,
+        }
+    }
+
+    // A fault of the file layer at this place of the file.
+    pub fn file(refusal: Refusal, place: usize) -> Fault
+        ensures { λ r. ⌜ r ≡ file-fault refusal place ⌝ }
+    {
+        Fault {
+            refusal,
+            layer: Layer::File,
+            place,
         }
     }
 

@@ -12,11 +12,12 @@ use Rattle.std.specs.declared.option.Option.the-variants.{Some, None}
 use Rattle.faults.specs.Faults.{board-fault}
 use Rattle.faults.specs.declared.fault.Fault.{Fault}
 use Rattle.faults.specs.declared.refusal.Refusal.{Refusal}
-use Rattle.network.specs.Edits.{bad-ends, outside-limits}
+use Rattle.network.specs.declared.pipe.Pipe.{Pipe}
+use Rattle.network.specs.Edits.{bad-ends, outside-limits, pipe-fault, weight-fault}
 use Rattle.network.specs.Edits.Edit.{add, weigh, join, remove}
 use Rattle.network.specs.Laws.{Accepted-within-limits}
 use Rattle.network.specs.Limits.{PipeFits, WeightFits, no-pipe}
-use Rattle.network.specs.Refusals.{refuse-if}
+use Rattle.network.specs.Refusals.{or-else, refuse-if}
 use Rattle.network.proofs.Keeps.{add-keeps, join-keeps, pushed-fits, remove-keeps, weigh-keeps, written-fits}
 
 refused : (f : Fault) → Some f ≡ None → ⊥
@@ -46,31 +47,52 @@ good-ends n a b e =
 not-bad : (n a b : ℕ) → a < n → b < n → (a ≡ b → ⊥) → bad-ends n a b ≡ false
 not-bad n a b p q r = or-from _ _ (lt-leb n a p) (or-from _ _ (lt-leb n b q) (ne-eqb a b r))
 
+-- one of two faults is due just where either is
+both-passed : (f later : Option Fault) → or-else f later ≡ None → (f ≡ None) × (later ≡ None)
+both-passed (Some f) later e = absurd (refused f e)
+both-passed None later e = (refl, e)
+
+both-pass : (f later : Option Fault) → f ≡ None → later ≡ None → or-else f later ≡ None
+both-pass (Some f) later e n = absurd (refused f e)
+both-pass None later e n = n
+
+-- a weight and a pipe have no fault just where they fit
+pub weight-fits : (w : ℕ) → weight-fault w ≡ None → WeightFits w
+weight-fits w e = within-limits _ _ w (passed _ _ _ e .0)
+
+pub weight-faultless : (w : ℕ) → WeightFits w → weight-fault w ≡ None
+weight-faultless w f = passes _ _ _ (not-outside _ _ w (f .0) (f .1)) refl
+
+pub pipe-fits : (n : ℕ) (p : Pipe) → pipe-fault n p ≡ None → PipeFits n p
+pipe-fits n p e =
+    let (ends, f) = passed _ _ _ e in
+    let (a, b, apart) = good-ends n (p .first) (p .second) ends in
+    let (low, high) = within-limits _ _ (p .cost) (passed _ _ _ f .0) in
+    (a, b, apart, low, high)
+
+pub pipe-faultless : (n : ℕ) (p : Pipe) → PipeFits n p → pipe-fault n p ≡ None
+pipe-faultless n p f =
+    passes _ _ _ (not-bad n (p .first) (p .second) (f .0) (f .1) (f .2)) (passes _ _ _ (not-outside _ _ (p .cost) (f .3) (f .4)) refl)
+
 pub accepted-within-limits : Accepted-within-limits
 accepted-within-limits net (add w) h = (
-  (λ e. let (room, f) = passed _ _ _ e in
-      (tt, add-keeps _ _ _ w refl h (leb-false _ _ room) (within-limits _ _ w (passed _ _ _ f .0)))),
+  (λ e. let (room, f) = passed _ _ _ e in (tt, add-keeps _ _ _ w refl h (leb-false _ _ room) (weight-fits w f))),
   (λ k. let (_, l) = k in
       let f = pushed-fits WeightFits 0 (net .weights) w (l .2) in
-      passes _ _ _ (lt-leb _ _ (omega (arith, l .0, length-append (net .weights) (w ∷ [])))) (passes _ _ _ (not-outside _ _ w (f .0) (f .1)) refl)),
+      passes _ _ _ (lt-leb _ _ (omega (arith, l .0, length-append (net .weights) (w ∷ [])))) (weight-faultless w f)),
 )
 accepted-within-limits net (weigh v w) h = (
-  (λ e. let (f, there) = passed _ _ _ e in
-      (leb-false _ _ (passed _ _ _ there .0), weigh-keeps _ _ v w h (within-limits _ _ w f))),
+  (λ e. let (f, there) = both-passed _ _ e in (leb-false _ _ (passed _ _ _ there .0), weigh-keeps _ _ v w h (weight-fits w f))),
   (λ k. let (there, l) = k in
       let f = written-fits WeightFits 0 (net .weights) v w there (l .2) in
-      passes _ _ _ (not-outside _ _ w (f .0) (f .1)) (passes _ _ _ (lt-leb _ _ there) refl)),
+      both-pass _ _ (weight-faultless w f) (passes _ _ _ (lt-leb _ _ there) refl)),
 )
-accepted-within-limits net (join a b c) h = (
-  (λ e. let (room, f) = passed _ _ _ e in
-      let (ends, g) = passed _ _ _ f in
-      let (p, q, apart) = good-ends _ a b ends in
-      let (low, high) = within-limits _ _ c (passed _ _ _ g .0) in
-      (tt, join-keeps _ _ _ _ refl h (leb-false _ _ room) (p, q, apart, low, high))),
-  (λ k. let (_, l) = k in
-      let f = pushed-fits (PipeFits (length (net .weights))) no-pipe (net .pipes) (record { first = a; second = b; cost = c }) (l .3) in
-      passes _ _ _ (lt-leb _ _ (omega (arith, l .1, length-append (net .pipes) (record { first = a; second = b; cost = c } ∷ []))))
-      (passes _ _ _ (not-bad _ a b (f .0) (f .1) (f .2)) (passes _ _ _ (not-outside _ _ c (f .3) (f .4)) refl))),
-)
+accepted-within-limits net (join a b c) h =
+    let n = length (net .weights) in
+    let p : Pipe = record { first = a; second = b; cost = c } in
+    ((λ e. let (room, f) = passed _ _ _ e in (tt, join-keeps _ _ _ _ refl h (leb-false _ _ room) (pipe-fits n p f))),
+     (λ k. let (_, l) = k in
+      let f = pushed-fits (PipeFits n) no-pipe (net .pipes) p (l .3) in
+      passes _ _ _ (lt-leb _ _ (omega (arith, l .1, length-append (net .pipes) (p ∷ [])))) (pipe-faultless n p f)))
 accepted-within-limits net (remove p) h =
     ((λ e. let there = leb-false _ _ (passed _ _ _ e .0) in (there, remove-keeps _ _ _ p refl h)), (λ k. passes _ _ _ (lt-leb _ _ (k .0)) refl))

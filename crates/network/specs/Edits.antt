@@ -11,9 +11,10 @@ use Rattle.std.specs.declared.option.Option.the-variants.{None}
 use Rattle.std.specs.declared.result.Result.{Result}
 use Rattle.faults.specs.declared.fault.Fault.{Fault}
 use Rattle.faults.specs.declared.refusal.Refusal.the-variants.{TooManyNodesOrPipes, WeightOutOfRange, BadNodeOrPipe, CostOutOfRange}
+use Rattle.network.specs.declared.pipe.Pipe.{Pipe}
 use Rattle.network.specs.Limits.{max-nodes, max-pipes, min-weight, max-weight, min-cost, max-cost}
 use Rattle.network.specs.Net.{Net, count}
-use Rattle.network.specs.Refusals.{refuse-if, unless, answer}
+use Rattle.network.specs.Refusals.{refuse-if, or-else, unless, answer}
 
 -- a new node of a weight; a node's new weight; a pipe between two nodes at a cost; a pipe taken out
 pub data Edit : Type 0 where
@@ -29,18 +30,23 @@ outside-limits low high x = ltb x low || ltb high x
 abbrev pub bad-ends : ℕ → ℕ → ℕ → Bool
 bad-ends n a b = leb n a || (leb n b || eqb a b)
 
+-- the fault of a node's weight, if it has one
+abbrev pub weight-fault : ℕ → Option Fault
+weight-fault w = refuse-if (outside-limits min-weight max-weight w) WeightOutOfRange None
+
+-- the fault of a pipe between nodes of the n that there are, if it has one
+abbrev pub pipe-fault : ℕ → Pipe → Option Fault
+pipe-fault n p =
+    refuse-if (bad-ends n (p .first) (p .second)) BadNodeOrPipe
+    (refuse-if (outside-limits min-cost max-cost (p .cost)) CostOutOfRange None)
+
 -- the first refusal that is due, if one is
 abbrev pub edit-refusal : Net → Edit → Option Fault
-edit-refusal net (add w) =
-    refuse-if (leb max-nodes (count net)) TooManyNodesOrPipes
-    (refuse-if (outside-limits min-weight max-weight w) WeightOutOfRange None)
-edit-refusal net (weigh v w) =
-    refuse-if (outside-limits min-weight max-weight w) WeightOutOfRange
-    (refuse-if (leb (count net) v) BadNodeOrPipe None)
+edit-refusal net (add w) = refuse-if (leb max-nodes (count net)) TooManyNodesOrPipes (weight-fault w)
+edit-refusal net (weigh v w) = or-else (weight-fault w) (refuse-if (leb (count net) v) BadNodeOrPipe None)
 edit-refusal net (join a b c) =
     refuse-if (leb max-pipes (length (net .pipes))) TooManyNodesOrPipes
-    (refuse-if (bad-ends (count net) a b) BadNodeOrPipe
-    (refuse-if (outside-limits min-cost max-cost c) CostOutOfRange None))
+    (pipe-fault (count net) (record { first = a; second = b; cost = c }))
 edit-refusal net (remove p) = refuse-if (leb (length (net .pipes)) p) BadNodeOrPipe None
 
 -- the network that an accepted edit makes; a pipe taken out lowers the number of each later one by 1

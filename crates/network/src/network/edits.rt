@@ -1,12 +1,12 @@
 ghost use mathlib.Core.Path.{_≡_};
 ghost use Rattle.network.specs.Edits.{add-answer, after-edit, join-answer, remove-answer, weigh-answer};
 ghost use Rattle.network.specs.Edits.Edit.{add, join, remove, weigh};
+ghost use Rattle.network.specs.Net.{empty};
 ghost use Rattle.network.specs.View.{view};
 use super::Network;
-use crate::limits::MAX_COST;
 use crate::limits::MAX_NODES;
 use crate::limits::MAX_PIPES;
-use crate::limits::MIN_COST;
+use crate::limits::check_pipe;
 use crate::limits::check_weight;
 use crate::pipe::Pipe;
 use faults::fault::Fault;
@@ -45,23 +45,18 @@ impl Network {
         ensures answer { λ r. ⌜ r ≡ join-answer (view (now (self .entry))) first second cost ⌝ }
         ensures after { λ _. ⌜ view (now (self .exit)) ≡ after-edit (view (now (self .entry))) (join first second cost) ⌝ }
     {
-        let pipe = self.pipes.len();
-        if pipe >= MAX_PIPES {
+        let number = self.pipes.len();
+        if number >= MAX_PIPES {
             return Err(Fault::board(Refusal::TooManyNodesOrPipes));
         }
-        let nodes = self.weights.len();
-        if first >= nodes || second >= nodes || first == second {
-            return Err(Fault::board(Refusal::BadNodeOrPipe));
-        }
-        if cost < MIN_COST || cost > MAX_COST {
-            return Err(Fault::board(Refusal::CostOutOfRange));
-        }
-        self.pipes.push_reserved(Pipe {
+        let pipe = Pipe {
             first,
             second,
             cost,
-        });
-        Ok(pipe)
+        };
+        check_pipe(self.weights.len(), pipe)?;
+        self.pipes.push_reserved(pipe);
+        Ok(number)
     }
 
     // Takes the pipe out; each later pipe's number falls by one.
@@ -74,5 +69,13 @@ impl Network {
         }
         let _ = self.pipes.remove(pipe);
         Ok(())
+    }
+
+    // Takes out every node and every pipe. The room that is reserved for them stays.
+    pub fn clear(&mut self)
+        ensures { λ _. ⌜ view (now (self .exit)) ≡ empty ⌝ }
+    {
+        self.pipes.clear();
+        self.weights.clear();
     }
 }

@@ -1,0 +1,5 @@
+pub mod Format
+pub mod Meaning
+pub mod Answers
+pub mod Laws
+pub mod Worked

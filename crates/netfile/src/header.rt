@@ -1,0 +1,69 @@
+// The leading bytes of a file, and its records behind them.
+ghost use mathlib.Core.Path.{_≡_};
+ghost use Rattle.std.specs.Results.{errPart};
+ghost use Rattle.std.specs.Vec.{made};
+ghost use Rattle.netfile.specs.Format.{Bytes};
+ghost use Rattle.netfile.specs.Meaning.{header-fault, mark-place, node-records, pipe-records};
+use faults::fault::Fault;
+use faults::refusal::Refusal;
+use network::limits::MAX_NODES;
+use network::limits::MAX_PIPES;
+
+pub(crate) const VERSION: u16 = 1;
+
+// How many bytes come before the records, and how many the record of a node and of a pipe has.
+pub(crate) const HEADER_SIZE: usize = 8;
+
+pub(crate) const NODE_SIZE: usize = 2;
+
+pub(crate) const PIPE_SIZE: usize = 4;
+
+// The records of a file, those of the nodes and those of the pipes.
+#[derive(Clone, Copy)]
+pub(crate) struct Records<'a> {
+    pub(crate) nodes: &'a [[u8; 2]],
+    pub(crate) pipes: &'a [[u8; 4]],
+}
+
+// The first of bytes 0 to 2 that is not the mark's, or else the file's length.
+fn mark_place(file: &[u8]) -> usize
+    ensures { λ r. ⌜ r ≡ mark-place (now (file .entry)) ⌝ }
+{
+    match file {
+        [] | [b'D'] | [b'D', b'Z'] | [b'D', b'Z', b'N', ..] => file.len(),
+        [b'D', b'Z', ..] => 2,
+        [b'D', ..] => 1,
+        [..] => 0,
+    }
+}
+
+// Tests the leading bytes and the length, and cuts the rest into records.
+pub(crate) fn open(file: &[u8]) -> Result<Records<'_>, Fault>
+    ensures fault { λ r. ⌜ errPart r ≡ header-fault (now (file .entry)) ⌝ }
+    ensures nodes { λ r. ⌜ made r (λ records. now (records .nodes) ≡ node-records (now (file .entry))) ⌝ }
+    ensures pipes { λ r. ⌜ made r (λ records. now (records .pipes) ≡ pipe-records (now (file .entry))) ⌝ }
+    ensures bytes { λ r. ⌜ made r (λ _. Bytes (now (file .entry))) ⌝ }
+{
+    let [b'D', b'Z', b'N', v1, v0, nodes, p1, p0, records @ ..] = file else {
+        return Err(Fault::file(Refusal::NotANetworkFile, mark_place(file)));
+    };
+    if u16::from_be_bytes([*v1, *v0]) != VERSION {
+        return Err(Fault::file(Refusal::UnknownVersion, 3));
+    }
+    let nodes = usize::from(*nodes);
+    if nodes > MAX_NODES {
+        return Err(Fault::file(Refusal::TooManyNodesOrPipes, 5));
+    }
+    let pipes = usize::from(u16::from_be_bytes([*p1, *p0]));
+    if pipes > MAX_PIPES {
+        return Err(Fault::file(Refusal::TooManyNodesOrPipes, 6));
+    }
+    let size = HEADER_SIZE + NODE_SIZE * nodes + PIPE_SIZE * pipes;
+    if file.len() != size {
+        return Err(Fault::file(Refusal::WrongFileLength, size.min(file.len())));
+    }
+    let (nodes, pipes) = records.split_at(NODE_SIZE * nodes);
+    let (nodes, _) = nodes.as_chunks();
+    let (pipes, _) = pipes.as_chunks();
+    Ok(Records { nodes, pipes })
+}
