@@ -1,2 +1,4 @@
 pub mod Cutting
 pub mod Scanning
+pub mod Faultless
+pub mod Filling

@@ -65,3 +65,28 @@ pub(crate) fn check_pipes(nodes: usize, records: &[[u8; 4]]) -> Result<(), Fault
     }
     Ok(())
 }
+
+// Adds a node for each record to a network without nodes. The records are tested, so that no node is refused.
+pub(crate) fn add_nodes(network: &mut Network, records: &[[u8; 2]])
+    requires few { ⌜ length (now records) ≤ max-nodes ⌝ }
+    requires tested { ⌜ nodes-fault (now records) ≡ None ⌝ }
+    requires blank { ⌜ view (now network) ≡ empty ⌝ }
+    ensures { λ _. ⌜ view (now (network .exit)) ≡ record { weights = map weight-from (now (records .entry)); pipes = [] } ⌝ }
+{
+    for record in records {
+        let _ = network.add_node(weight_from(*record)).unwrap();
+    }
+}
+
+// Lays a pipe for each record in a network without pipes. The records are tested, so that no pipe is refused.
+pub(crate) fn join_pipes(network: &mut Network, records: &[[u8; 4]])
+    requires few { ⌜ length (now records) ≤ max-pipes ⌝ }
+    requires tested { ⌜ pipes-fault (count (view (now network))) (now records) ≡ None ⌝ }
+    requires blank { ⌜ view (now network) .pipes ≡ [] ⌝ }
+    ensures { λ _. ⌜ view (now (network .exit)) ≡ record { weights = view (now (network .entry)) .weights; pipes = map pipe-from (now (records .entry)) } ⌝ }
+{
+    for record in records {
+        let pipe = pipe_from(*record);
+        let _ = network.join(pipe.first, pipe.second, pipe.cost).unwrap();
+    }
+}
