@@ -1,9 +1,12 @@
 // The leading bytes of a file, and its records behind them.
 ghost use mathlib.Core.Path.{_≡_};
+ghost use Prim.Native.Nat.{_≤_};
+ghost use lib.ListN.{length};
 ghost use Rattle.std.specs.Results.{errPart};
 ghost use Rattle.std.specs.Vec.{made};
+ghost use Rattle.network.specs.Limits.{max-nodes, max-pipes};
 ghost use Rattle.netfile.specs.Format.{Bytes};
-ghost use Rattle.netfile.specs.Meaning.{header-fault, mark-place, node-records, pipe-records};
+ghost use Rattle.netfile.specs.Meaning.{header-fault, mark-place, node-count, node-records, pipe-records};
 use faults::fault::Fault;
 use faults::refusal::Refusal;
 use network::limits::MAX_NODES;
@@ -42,6 +45,8 @@ pub(crate) fn open(file: &[u8]) -> Result<Records<'_>, Fault>
     ensures fault { λ r. ⌜ errPart r ≡ header-fault (now (file .entry)) ⌝ }
     ensures nodes { λ r. ⌜ made r (λ records. now (records .nodes) ≡ node-records (now (file .entry))) ⌝ }
     ensures pipes { λ r. ⌜ made r (λ records. now (records .pipes) ≡ pipe-records (now (file .entry))) ⌝ }
+    ensures node_count { λ r. ⌜ made r (λ records. (length (now (records .nodes)) ≡ node-count (now (file .entry))) × (length (now (records .nodes)) ≤ max-nodes)) ⌝ }
+    ensures pipe_count { λ r. ⌜ made r (λ records. length (now (records .pipes)) ≤ max-pipes) ⌝ }
     ensures bytes { λ r. ⌜ made r (λ _. Bytes (now (file .entry))) ⌝ }
 {
     let [b'D', b'Z', b'N', v1, v0, nodes, p1, p0, records @ ..] = file else {

@@ -1,3 +1,4 @@
 // The network file: a network read from bytes, and written as bytes.
+pub mod file;
 mod header;
 mod reading;

@@ -71,7 +71,8 @@ pub(crate) fn add_nodes(network: &mut Network, records: &[[u8; 2]])
     requires few { ⌜ length (now records) ≤ max-nodes ⌝ }
     requires tested { ⌜ nodes-fault (now records) ≡ None ⌝ }
     requires blank { ⌜ view (now network) ≡ empty ⌝ }
-    ensures { λ _. ⌜ view (now (network .exit)) ≡ record { weights = map weight-from (now (records .entry)); pipes = [] } ⌝ }
+    ensures after { λ _. ⌜ view (now (network .exit)) ≡ record { weights = map weight-from (now (records .entry)); pipes = [] } ⌝ }
+    ensures count { λ _. ⌜ count (view (now (network .exit))) ≡ length (now (records .entry)) ⌝ }
 {
     for record in records {
         let _ = network.add_node(weight_from(*record)).unwrap();

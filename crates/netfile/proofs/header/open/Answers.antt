@@ -21,5 +21,7 @@ returns c =
       fault = search needs;
       nodes = c .as-chunks .ensures .front ∙ cut-front 2 (drop 8 file) _ n _ nodes (search needs);
       pipes = c .as-chunks-2 .ensures .front ∙ cut-from 4 file _ (8 + 2 * n) (pipe-count file) _ pipes (search needs);
+      node-count = search needs;
+      pipe-count = search needs;
       bytes = all-from-getD (λ b. b < 256) file 0 (λ i l. let f = c .typed .file i in omega arith);
     }
