@@ -39,6 +39,9 @@ buffer-fault net room = refuse-at (ltb room (length (file-of net))) BufferTooSho
 abbrev pub write-answer : Net → ℕ → Result ℕ Fault
 write-answer net room = answer (buffer-fault net room) (length (file-of net))
 
--- the file, and then what the buffer held there before
+-- the buffer with these bytes at its front, and behind them what it held there before
+abbrev pub over : List ℕ → List ℕ → List ℕ
+over bytes out = bytes ++ drop (length bytes) out
+
 abbrev pub after-write : Net → List ℕ → List ℕ
-after-write net out = unless (buffer-fault net (length out)) out (file-of net ++ drop (length (file-of net)) out)
+after-write net out = unless (buffer-fault net (length out)) out (over (file-of net) out)

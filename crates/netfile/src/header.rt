@@ -5,7 +5,7 @@ ghost use lib.ListN.{length};
 ghost use Rattle.std.specs.Results.{errPart};
 ghost use Rattle.std.specs.Vec.{made};
 ghost use Rattle.network.specs.Limits.{max-nodes, max-pipes};
-ghost use Rattle.netfile.specs.Format.{Bytes};
+ghost use Rattle.netfile.specs.Format.{Bytes, file-size};
 ghost use Rattle.netfile.specs.Meaning.{header-fault, mark-place, node-count, node-records, pipe-records};
 use faults::fault::Fault;
 use faults::refusal::Refusal;
@@ -26,6 +26,14 @@ pub(crate) const PIPE_SIZE: usize = 4;
 pub(crate) struct Records<'a> {
     pub(crate) nodes: &'a [[u8; 2]],
     pub(crate) pipes: &'a [[u8; 4]],
+}
+
+// How long a file of so many nodes and pipes is.
+pub(crate) fn file_size(nodes: usize, pipes: usize) -> usize
+    requires { ⌜ (nodes ≤ max-nodes) × (pipes ≤ max-pipes) ⌝ }
+    ensures { λ r. ⌜ r ≡ file-size nodes pipes ⌝ }
+{
+    HEADER_SIZE + NODE_SIZE * nodes + PIPE_SIZE * pipes
 }
 
 // The first of bytes 0 to 2 that is not the mark's, or else the file's length.
@@ -63,7 +71,7 @@ pub(crate) fn open(file: &[u8]) -> Result<Records<'_>, Fault>
     if pipes > MAX_PIPES {
         return Err(Fault::file(Refusal::TooManyNodesOrPipes, 6));
     }
-    let size = HEADER_SIZE + NODE_SIZE * nodes + PIPE_SIZE * pipes;
+    let size = file_size(nodes, pipes);
     if file.len() != size {
         return Err(Fault::file(Refusal::WrongFileLength, size.min(file.len())));
     }

@@ -2,3 +2,4 @@
 pub mod file;
 mod header;
 mod reading;
+mod writing;
