@@ -7,7 +7,7 @@ use native.Mathlib.Omega.{arith}
 use lib.ListN.{length, drop, length-append}
 use lib.Seq.{paste}
 use Rattle.std.proofs.shelf.Edits.{paste-all, paste-paste}
-use Rattle.std.proofs.shelf.Lists.{append-assoc}
+use Rattle.std.proofs.shelf.Lists.{drop-at}
 use Rattle.std.specs.Joined.{joined}
 use Rattle.network.specs.Net.{Net, count}
 use Rattle.netfile.specs.Answers.{over}
@@ -31,6 +31,15 @@ module _ (net : Net) where
   unfolding file-of
   split = refl
 
+  -- how long the leading bytes and the nodes' records are together, and what comes behind them
+  length-front : length (header (count net) (length (net .pipes)) ++ joined node-record (net .weights)) ≡ pipes-place (count net)
+  length-front = length-append (header (count net) (length (net .pipes))) (joined node-record (net .weights)) ∙ ap (λ k. header-size + k) length-nodes
+
+  pub behind-nodes : drop (pipes-place (count net)) (file-of net) ≡ joined pipe-record (net .pipes)
+  behind-nodes =
+      ap (drop (pipes-place (count net))) split
+      ∙ drop-at (header (count net) (length (net .pipes)) ++ joined node-record (net .weights)) (joined pipe-record (net .pipes)) (pipes-place (count net)) length-front
+
   -- the leading bytes, the nodes and the pipes, written one after the other
   pub file-pasted : (out a b c : List ℕ) →
       a ≡ paste out 0 (header (count net) (length (net .pipes))) header-size →
@@ -42,7 +51,7 @@ module _ (net : Net) where
       let ns = joined node-record (net .weights) in
       let ps = joined pipe-record (net .pipes) in
       let two : b ≡ paste out 0 (h ++ ns) (pipes-place (count net)) = rw (q, p) (paste-paste out 0 h ns 8 (node-size * count net) refl (sym length-nodes) (omega arith)) in
-      let n : pipes-place (count net) ≡ length (h ++ ns) = sym (length-append h ns ∙ ap (λ k. 8 + k) length-nodes) in
+      let n = sym length-front in
       let z : pipes-place (count net) ≡ 0 + pipes-place (count net) = omega arith in
       let three : c ≡ paste out 0 ((h ++ ns) ++ ps) (file-size (count net) (length (net .pipes))) =
           (r ∙ ap (λ k. paste b k ps (pipe-size * length (net .pipes))) z) ∙ rw two (paste-paste out 0 (h ++ ns) ps (pipes-place (count net)) (pipe-size * length (net .pipes)) n (sym length-pipes) (omega arith)) in

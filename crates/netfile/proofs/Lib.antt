@@ -4,3 +4,6 @@ pub mod Faultless
 pub mod Filling
 pub mod Pasting
 pub mod Files
+pub mod Leading
+pub mod Written
+pub mod Accepted
