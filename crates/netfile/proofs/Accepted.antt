@@ -19,11 +19,12 @@ use Rattle.network.specs.Limits.{PipeFits, WeightFits, WithinLimits, no-pipe}
 use Rattle.network.specs.Net.{Net, count}
 use Rattle.network.specs.Refusals.{answer, or-else}
 use Rattle.netfile.specs.Format.{Bytes, file-of, header, header-size, node-record, node-size, pipe-from, pipe-record, pipe-size, pipes-place, weight-from}
-use Rattle.netfile.specs.Laws.{Accepted-is-within-limits, Accepted-is-written-back}
+use Rattle.netfile.specs.Laws.{Accepted-exactly, Accepted-is-written-back}
 use Rattle.netfile.specs.Meaning.{first-file-fault, header-fault, meaning, network-in, node-count, node-records, nodes-fault, pipe-count, pipe-records, pipes-fault}
 use Rattle.netfile.proofs.Cutting.{joined-chunked, length-chunked, node-again, pipe-again}
 use Rattle.netfile.proofs.Faultless.{each-faultless}
 use Rattle.netfile.proofs.Leading.{Good, good}
+use Rattle.netfile.proofs.Written.{written-loads-as-itself}
 
 -- what an accepted file shows: no fault of any part, and the network is the one of its records
 accepted : (o : Option Fault) (x y : Net) → answer o x ≡ Ok y → (o ≡ None) × (x ≡ y)
@@ -58,14 +59,16 @@ module _ (file : List ℕ) where
       let n = count-is in
       let m = pipes-are in
       let ws : All WeightFits (network-in file .weights) =
-          all-map WeightFits weight-from (node-records file)
-          (all-weaker _ _ (λ r e. weight-fits (weight-from r) e) (node-records file) (each-faultless _ node-size header-size (node-records file) (f .nodes))) in
+      all-map WeightFits weight-from (node-records file)
+      (all-weaker _ _ (λ r e. weight-fits (weight-from r) e) (node-records file) (each-faultless _ node-size header-size (node-records file) (f .nodes))) in
       let ps : All (PipeFits (node-count file)) (network-in file .pipes) =
-          all-map (PipeFits (node-count file)) pipe-from (pipe-records file)
-          (all-weaker _ _ (λ r e. pipe-fits (node-count file) (pipe-from r) e) (pipe-records file) (each-faultless _ pipe-size (pipes-place (node-count file)) (pipe-records file) (f .pipes))) in
-      (omega (arith, f .leading .nodes), omega (arith, f .leading .pipes),
-       (λ v l. all-getD WeightFits (network-in file .weights) v 0 l ws),
-       (λ k l. subst (λ c. PipeFits c (getD (network-in file .pipes) k no-pipe)) (sym n) (all-getD (PipeFits (node-count file)) (network-in file .pipes) k no-pipe l ps)))
+      all-map (PipeFits (node-count file)) pipe-from (pipe-records file)
+      (all-weaker _ _ (λ r e. pipe-fits (node-count file) (pipe-from r) e) (pipe-records file) (each-faultless _ pipe-size (pipes-place (node-count file)) (pipe-records file) (f .pipes))) in (
+        omega (arith, f .leading .nodes),
+        omega (arith, f .leading .pipes),
+        (λ v l. all-getD WeightFits (network-in file .weights) v 0 l ws),
+        (λ k l. subst (λ c. PipeFits c (getD (network-in file .pipes) k no-pipe)) (sym n) (all-getD (PipeFits (node-count file)) (network-in file .pipes) k no-pipe l ps)),
+      )
 
   module _ (bytes : Bytes file) (g : Good file) where
     byte : (k : ℕ) → k < header-size → getD file k 0 < 256
@@ -123,7 +126,8 @@ accepted-is-written-back file net bytes e =
     let (o, same) = accepted _ _ net e in
     subst (λ n. file-of n ≡ file) same (back file bytes (parts file o .leading))
 
-pub accepted-is-within-limits : Accepted-is-within-limits
-accepted-is-within-limits file net e =
-    let (o, same) = accepted _ _ net e in
-    subst WithinLimits same (limits file (parts file o))
+pub accepted-exactly : Accepted-exactly
+accepted-exactly file net bytes = (
+  (λ e. let (o, same) = accepted _ _ net e in (subst WithinLimits same (limits file (parts file o)), accepted-is-written-back file net bytes e)),
+  (λ k. let (h, same) = k in subst (λ f. meaning f ≡ Ok net) same (written-loads-as-itself net h)),
+)

@@ -54,7 +54,7 @@ module _ (net : Net) where
       let n = sym length-front in
       let z : pipes-place (count net) ≡ 0 + pipes-place (count net) = omega arith in
       let three : c ≡ paste out 0 ((h ++ ns) ++ ps) (file-size (count net) (length (net .pipes))) =
-          (r ∙ ap (λ k. paste b k ps (pipe-size * length (net .pipes))) z) ∙ rw two (paste-paste out 0 (h ++ ns) ps (pipes-place (count net)) (pipe-size * length (net .pipes)) n (sym length-pipes) (omega arith)) in
+      (r ∙ ap (λ k. paste b k ps (pipe-size * length (net .pipes))) z) ∙ rw two (paste-paste out 0 (h ++ ns) ps (pipes-place (count net)) (pipe-size * length (net .pipes)) n (sym length-pipes) (omega arith)) in
       let whole : file-of net ≡ (h ++ ns) ++ ps = split in
       let k = file-size (count net) (length (net .pipes)) in
       let last : paste out 0 (file-of net) k ≡ file-of net ++ drop (0 + k) out = paste-all out 0 (file-of net) k (sym length-file) in

@@ -20,17 +20,17 @@ use Rattle.network.specs.Edits.Edit.{add, join}
 use Rattle.network.specs.Limits.{max-nodes, max-pipes}
 use Rattle.network.specs.Net.{Net}
 use Rattle.network.specs.Refusals.{answer, unless}
-use Rattle.netfile.specs.Format.{header-size, node-size, pipe-from, pipe-size, pipes-place, weight-from}
+use Rattle.netfile.specs.Format.{header-size, net-of, node-size, pipe-from, pipe-size, pipes-place, weight-from}
 use Rattle.netfile.specs.Meaning.{nodes-fault, pipes-fault}
 use Rattle.netfile.proofs.Faultless.{each-faultless}
 
 -- the network of the first i nodes' records
 abbrev pub nodes-upto : List (List ℕ) → ℕ → Net
-nodes-upto records i = record { weights = map weight-from (take i records); pipes = [] }
+nodes-upto records i = net-of (map weight-from (take i records)) []
 
 -- the network of nodes with these weights, and of the first i pipes' records
 abbrev pub pipes-upto : List ℕ → List (List ℕ) → ℕ → Net
-pipes-upto ws records i = record { weights = ws; pipes = map pipe-from (take i records) }
+pipes-upto ws records i = net-of ws (map pipe-from (take i records))
 
 short : {X : Type 0} (f : List ℕ → X) (records : List (List ℕ)) (i : ℕ) → i < length records → length (map f (take i records)) ≡ i
 short f records i l = length-map (take i records) f ∙ (length-take i records ∙ omega arith)
@@ -55,7 +55,7 @@ module _ (records : List (List ℕ)) (i : ℕ) (net : Net) (w : ℕ) (l : i < le
   pub node-added : (after : Net) → after ≡ after-edit net (add w) → after ≡ nodes-upto records (i + 1)
   node-added after e =
       passed-after _ _ _ after node-due e
-      ∙ rw (so-far, is) (ap (λ (ws : List ℕ). record { weights = ws; pipes = [] }) (sym (map-more weight-from records i [] l)))
+      ∙ rw (so-far, is) (ap (λ ws. net-of ws []) (sym (map-more weight-from records i [] l)))
 
 -- record i, of those of the pipes
 module _ (ws : List ℕ) (records : List (List ℕ)) (i : ℕ) (net : Net) (p : Pipe) (l : i < length records) (few : length records ≤ max-pipes) (tested : pipes-fault (length ws) records ≡ None) (so-far : net ≡ pipes-upto ws records i) (is : p ≡ pipe-from (getD records i [])) where
@@ -70,11 +70,11 @@ module _ (ws : List ℕ) (records : List (List ℕ)) (i : ℕ) (net : Net) (p : 
   pub pipe-joined : (after : Net) → after ≡ after-edit net (join (p .first) (p .second) (p .cost)) → after ≡ pipes-upto ws records (i + 1)
   pipe-joined after e =
       passed-after _ _ _ after pipe-due e
-      ∙ rw (so-far, is) (ap (λ (ps : List Pipe). record { weights = ws; pipes = ps }) (sym (map-more pipe-from records i [] l)))
+      ∙ rw (so-far, is) (ap (net-of ws) (sym (map-more pipe-from records i [] l)))
 
 -- after the last record
-pub all-nodes : (records : List (List ℕ)) (i : ℕ) → length records ≤ i → nodes-upto records i ≡ record { weights = map weight-from records; pipes = [] }
+pub all-nodes : (records : List (List ℕ)) (i : ℕ) → length records ≤ i → nodes-upto records i ≡ net-of (map weight-from records) []
 all-nodes records i l = rw (take-all i records l) refl
 
-pub all-pipes : (ws : List ℕ) (records : List (List ℕ)) (i : ℕ) → length records ≤ i → pipes-upto ws records i ≡ record { weights = ws; pipes = map pipe-from records }
+pub all-pipes : (ws : List ℕ) (records : List (List ℕ)) (i : ℕ) → length records ≤ i → pipes-upto ws records i ≡ net-of ws (map pipe-from records)
 all-pipes ws records i l = rw (take-all i records l) refl

@@ -35,7 +35,7 @@ module _ {X : Type 0} (f : X → List ℕ) (size : ℕ) (sized : (x : X) → len
         let n : length bytes ≡ size = ap length e ∙ sized (getD xs i d) in
         let k : size * i + size ≡ size * (i + 1) = omega arith in
         let step : paste (pasted i) (at + size * i) t size ≡ paste out at (s ++ t) (size * i + size) =
-            paste-paste out at s t (size * i) size (length-front i (omega arith)) (sym (sized (getD xs i d))) room in
+        paste-paste out at s t (size * i) size (length-front i (omega arith)) (sym (sized (getD xs i d))) room in
         rw (h, n, e, b, step, more, k) refl
 
     pub pasted-all : (i : ℕ) → i ≡ length xs → pasted i ≡ paste out at (joined f xs) (size * length xs)

@@ -73,13 +73,13 @@ module _ (net : Net) (h : WithinLimits net) where
   no-node-fault : nodes-fault (node-records (file-of net)) ≡ None
   no-node-fault =
       let each = all-from-getD (λ w. weight-fault (weight-from (node-record w)) ≡ None) (net .weights) 0
-          (λ v l. rw (div-add-mod' (getD (net .weights) v 0) 256) (weight-faultless (getD (net .weights) v 0) (h .2 v l))) in
+      (λ v l. rw (div-add-mod' (getD (net .weights) v 0) 256) (weight-faultless (getD (net .weights) v 0) (h .2 v l))) in
       rw nodes-are (all-faultless _ node-size header-size _ (all-map (λ r. weight-fault (weight-from r) ≡ None) node-record (net .weights) each))
 
   no-pipe-fault : pipes-fault (count net) (pipe-records (file-of net)) ≡ None
   no-pipe-fault =
       let each = all-from-getD (λ p. pipe-fault (count net) (pipe-from (pipe-record p)) ≡ None) (net .pipes) no-pipe
-          (λ k l. rw (div-add-mod' (getD (net .pipes) k no-pipe .cost) 256) (pipe-faultless (count net) (getD (net .pipes) k no-pipe) (h .3 k l))) in
+      (λ k l. rw (div-add-mod' (getD (net .pipes) k no-pipe .cost) 256) (pipe-faultless (count net) (getD (net .pipes) k no-pipe) (h .3 k l))) in
       rw pipes-are (all-faultless _ pipe-size (pipes-place (count net)) _ (all-map (λ r. pipe-fault (count net) (pipe-from r) ≡ None) pipe-record (net .pipes) each))
 
   node-count-is : node-count (file-of net) ≡ count net
@@ -107,7 +107,7 @@ unfolding file-of
 written-in-bytes net h =
     let nodes = all-from-getD (λ w. Bytes (node-record w)) (net .weights) 0 (λ v l. bytes-are _ (omega (arith, h .2 v l .1))) in
     let pipes = all-from-getD (λ p. Bytes (pipe-record p)) (net .pipes) no-pipe
-        (λ k l. let f = h .3 k l in (omega (arith, f .0, h .0), (omega (arith, f .1, h .0), bytes-are _ (omega (arith, f .4))))) in
+    (λ k l. let f = h .3 k l in (omega (arith, f .0, h .0), (omega (arith, f .1, h .0), bytes-are _ (omega (arith, f .4))))) in
     let records = all-append _ (joined node-record (net .weights)) (joined pipe-record (net .pipes)) (joined-bytes node-record _ nodes) (joined-bytes pipe-record _ pipes) in
     let m = bytes-are (length (net .pipes)) (omega (arith, h .1)) in
     (omega arith, (omega arith, (omega arith, (omega arith, (omega arith, (omega (arith, h .0), (m .0, (m .1 .0, records))))))))

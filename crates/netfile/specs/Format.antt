@@ -11,7 +11,7 @@ use Rattle.std.specs.shelf.Lists.{All}
 use Rattle.network.specs.declared.pipe.Pipe.{Pipe}
 use Rattle.network.specs.Net.{Net, count}
 
--- what the elements of a list of bytes are
+-- each element is a byte
 abbrev pub Bytes : List ℕ → Type 0
 Bytes bs = All (λ b. b < 256) bs
 
@@ -21,6 +21,16 @@ mark = codes "DZN"
 
 abbrev pub version : ℕ
 version = 1
+
+-- where the version and the two counts stand
+abbrev pub version-place : ℕ
+version-place = 3
+
+abbrev pub node-count-place : ℕ
+node-count-place = 5
+
+abbrev pub pipe-count-place : ℕ
+pipe-count-place = 6
 
 -- how many bytes come before the records, and how many the record of a node and of a pipe has
 abbrev pub header-size : ℕ
@@ -64,6 +74,10 @@ pipe-from bytes = record {
 
 abbrev pub pipe-record : Pipe → List ℕ
 pipe-record p = p .first ∷ p .second ∷ bytes-of (p .cost)
+
+-- the network of nodes with these weights and of these pipes
+abbrev pub net-of : List ℕ → List Pipe → Net
+net-of ws ps = record { weights = ws; pipes = ps }
 
 -- the eight leading bytes of a file of n nodes and m pipes
 abbrev pub header : ℕ → ℕ → List ℕ

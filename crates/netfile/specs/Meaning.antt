@@ -17,7 +17,7 @@ use Rattle.network.specs.Edits.{weight-fault, pipe-fault}
 use Rattle.network.specs.Limits.{max-nodes, max-pipes}
 use Rattle.network.specs.Net.{Net}
 use Rattle.network.specs.Refusals.{answer, or-else}
-use Rattle.netfile.specs.Format.{mark, version, header-size, node-size, pipe-size, pipes-place, file-size, number-of, weight-from, pipe-from}
+use Rattle.netfile.specs.Format.{mark, version, version-place, node-count-place, pipe-count-place, header-size, node-size, pipe-size, pipes-place, file-size, number-of, weight-from, pipe-from, net-of}
 
 -- the refusal r at this place where the condition holds, else what comes later in the order of tests
 abbrev pub refuse-at : Bool → Refusal → ℕ → Option Fault → Option Fault
@@ -60,10 +60,10 @@ module _ (file : List ℕ) where
   mark-place = cond (differs 0) 0 (cond (differs 1) 1 (cond (differs 2) 2 (length file)))
 
   abbrev pub node-count : ℕ
-  node-count = getD file 5 0
+  node-count = getD file node-count-place 0
 
   abbrev pub pipe-count : ℕ
-  pipe-count = number-at file 6
+  pipe-count = number-at file pipe-count-place
 
   -- how long the file should be by its counts
   abbrev pub size-due : ℕ
@@ -73,12 +73,12 @@ module _ (file : List ℕ) where
   abbrev pub header-fault : Option Fault
   header-fault =
       refuse-at unmarked NotANetworkFile mark-place
-      (refuse-at (not (eqb (number-at file 3) version)) UnknownVersion 3
-      (refuse-at (ltb max-nodes node-count) TooManyNodesOrPipes 5
-      (refuse-at (ltb max-pipes pipe-count) TooManyNodesOrPipes 6
+      (refuse-at (not (eqb (number-at file version-place) version)) UnknownVersion version-place
+      (refuse-at (ltb max-nodes node-count) TooManyNodesOrPipes node-count-place
+      (refuse-at (ltb max-pipes pipe-count) TooManyNodesOrPipes pipe-count-place
       (refuse-at (not (eqb (length file) size-due)) WrongFileLength (min (length file) size-due) None))))
 
-  -- the records in file order
+  -- the records in file order: as many pieces of their size as are counted, one behind the other
   abbrev pub node-records : List (List ℕ)
   node-records = chunked node-size node-count (drop header-size file)
 
@@ -91,7 +91,7 @@ module _ (file : List ℕ) where
 
   -- the network that the records make
   abbrev pub network-in : Net
-  network-in = record { weights = map weight-from node-records; pipes = map pipe-from pipe-records }
+  network-in = net-of (map weight-from node-records) (map pipe-from pipe-records)
 
   -- what the file means
   abbrev pub meaning : Result Net Fault

@@ -14,6 +14,13 @@ use network::limits::MAX_PIPES;
 
 pub(crate) const VERSION: u16 = 1;
 
+// Where the version and the two counts stand.
+const VERSION_PLACE: usize = 3;
+
+const NODE_COUNT_PLACE: usize = 5;
+
+const PIPE_COUNT_PLACE: usize = 6;
+
 // How many bytes come before the records, and how many the record of a node and of a pipe has.
 pub(crate) const HEADER_SIZE: usize = 8;
 
@@ -49,6 +56,7 @@ fn mark_place(file: &[u8]) -> usize
 }
 
 // Tests the leading bytes and the length, and cuts the rest into records.
+// That the file is a list of bytes is said once here, where its elements are read, for the law that needs it.
 pub(crate) fn open(file: &[u8]) -> Result<Records<'_>, Fault>
     ensures fault { λ r. ⌜ errPart r ≡ header-fault (now (file .entry)) ⌝ }
     ensures nodes { λ r. ⌜ made r (λ records. now (records .nodes) ≡ node-records (now (file .entry))) ⌝ }
@@ -61,15 +69,15 @@ pub(crate) fn open(file: &[u8]) -> Result<Records<'_>, Fault>
         return Err(Fault::file(Refusal::NotANetworkFile, mark_place(file)));
     };
     if u16::from_be_bytes([*v1, *v0]) != VERSION {
-        return Err(Fault::file(Refusal::UnknownVersion, 3));
+        return Err(Fault::file(Refusal::UnknownVersion, VERSION_PLACE));
     }
     let nodes = usize::from(*nodes);
     if nodes > MAX_NODES {
-        return Err(Fault::file(Refusal::TooManyNodesOrPipes, 5));
+        return Err(Fault::file(Refusal::TooManyNodesOrPipes, NODE_COUNT_PLACE));
     }
     let pipes = usize::from(u16::from_be_bytes([*p1, *p0]));
     if pipes > MAX_PIPES {
-        return Err(Fault::file(Refusal::TooManyNodesOrPipes, 6));
+        return Err(Fault::file(Refusal::TooManyNodesOrPipes, PIPE_COUNT_PLACE));
     }
     let size = file_size(nodes, pipes);
     if file.len() != size {

@@ -8,7 +8,7 @@ ghost use Rattle.network.specs.Limits.{max-nodes, max-pipes};
 ghost use Rattle.network.specs.Net.{count, empty};
 ghost use Rattle.network.specs.Refusals.{answer};
 ghost use Rattle.network.specs.View.{view};
-ghost use Rattle.netfile.specs.Format.{pipe-from, weight-from};
+ghost use Rattle.netfile.specs.Format.{net-of, pipe-from, weight-from};
 ghost use Rattle.netfile.specs.Meaning.{nodes-fault, pipes-fault};
 use crate::header::HEADER_SIZE;
 use crate::header::NODE_SIZE;
@@ -71,11 +71,11 @@ pub(crate) fn add_nodes(network: &mut Network, records: &[[u8; 2]])
     requires few { ⌜ length (now records) ≤ max-nodes ⌝ }
     requires tested { ⌜ nodes-fault (now records) ≡ None ⌝ }
     requires blank { ⌜ view (now network) ≡ empty ⌝ }
-    ensures after { λ _. ⌜ view (now (network .exit)) ≡ record { weights = map weight-from (now (records .entry)); pipes = [] } ⌝ }
+    ensures after { λ _. ⌜ view (now (network .exit)) ≡ net-of (map weight-from (now (records .entry))) [] ⌝ }
     ensures count { λ _. ⌜ count (view (now (network .exit))) ≡ length (now (records .entry)) ⌝ }
 {
     for record in records {
-        let _ = network.add_node(weight_from(*record)).unwrap();
+        network.add_node(weight_from(*record)).unwrap();
     }
 }
 
@@ -84,10 +84,10 @@ pub(crate) fn join_pipes(network: &mut Network, records: &[[u8; 4]])
     requires few { ⌜ length (now records) ≤ max-pipes ⌝ }
     requires tested { ⌜ pipes-fault (count (view (now network))) (now records) ≡ None ⌝ }
     requires blank { ⌜ view (now network) .pipes ≡ [] ⌝ }
-    ensures { λ _. ⌜ view (now (network .exit)) ≡ record { weights = view (now (network .entry)) .weights; pipes = map pipe-from (now (records .entry)) } ⌝ }
+    ensures { λ _. ⌜ view (now (network .exit)) ≡ net-of (view (now (network .entry)) .weights) (map pipe-from (now (records .entry))) ⌝ }
 {
     for record in records {
         let pipe = pipe_from(*record);
-        let _ = network.join(pipe.first, pipe.second, pipe.cost).unwrap();
+        network.join(pipe.first, pipe.second, pipe.cost).unwrap();
     }
 }

@@ -1,12 +1,14 @@
 // A network's file, written into a buffer.
 ghost use mathlib.Core.Path.{_≡_};
 ghost use Prim.Native.Nat.{_*_, _+_, _≤_};
-ghost use lib.ListN.{length};
+ghost use lib.ListN.{length, take};
 ghost use lib.Seq.{paste};
 ghost use Rattle.std.specs.Joined.{joined};
+ghost use Rattle.std.specs.declared.result.Result.the-variants.{Ok};
 ghost use Rattle.network.specs.Limits.{Limits, PipeFits, PipesFit, WeightFits, WeightsFit, max-nodes, max-pipes};
 ghost use Rattle.netfile.specs.Answers.{over};
-ghost use Rattle.netfile.specs.Format.{file-of, file-size, header, header-size, node-record, node-size, pipe-record, pipe-size, pipes-place};
+ghost use Rattle.netfile.specs.Format.{file-of, file-size, header, header-size, net-of, node-record, node-size, pipe-record, pipe-size, pipes-place};
+ghost use Rattle.netfile.specs.Meaning.{meaning};
 use crate::header::HEADER_SIZE;
 use crate::header::NODE_SIZE;
 use crate::header::PIPE_SIZE;
@@ -78,7 +80,7 @@ pub(crate) fn put_pipes(out: &mut [u8], nodes: usize, pipes: &[Pipe])
 // How long the file of a network of these nodes and pipes is.
 pub(crate) fn size_of(weights: &[u32], pipes: &[Pipe]) -> usize
     requires { ⌜ Limits (now weights) (now pipes) ⌝ }
-    ensures length { λ r. ⌜ r ≡ length (file-of (record { weights = now (weights .entry); pipes = now (pipes .entry) })) ⌝ }
+    ensures length { λ r. ⌜ r ≡ length (file-of (net-of (now (weights .entry)) (now (pipes .entry)))) ⌝ }
     ensures counts { λ r. ⌜ r ≡ file-size (length (now (weights .entry))) (length (now (pipes .entry))) ⌝ }
 {
     file_size(weights.len(), pipes.len())
@@ -88,7 +90,8 @@ pub(crate) fn size_of(weights: &[u32], pipes: &[Pipe]) -> usize
 pub(crate) fn put_file(out: &mut [u8], weights: &[u32], pipes: &[Pipe])
     requires limits { ⌜ Limits (now weights) (now pipes) ⌝ }
     requires room { ⌜ file-size (length (now weights)) (length (now pipes)) ≤ length (now out) ⌝ }
-    ensures { λ _. ⌜ now (out .exit) ≡ over (file-of (record { weights = now (weights .entry); pipes = now (pipes .entry) })) (now (out .entry)) ⌝ }
+    ensures after { λ _. ⌜ now (out .exit) ≡ over (file-of (net-of (now (weights .entry)) (now (pipes .entry)))) (now (out .entry)) ⌝ }
+    ensures loads { λ _. ⌜ meaning (take (length (file-of (net-of (now (weights .entry)) (now (pipes .entry))))) (now (out .exit))) ≡ Ok (net-of (now (weights .entry)) (now (pipes .entry))) ⌝ }
 {
     put_header(out, weights.len(), pipes.len());
     put_nodes(out, weights);

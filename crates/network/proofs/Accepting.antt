@@ -89,10 +89,11 @@ accepted-within-limits net (weigh v w) h = (
 )
 accepted-within-limits net (join a b c) h =
     let n = length (net .weights) in
-    let p : Pipe = record { first = a; second = b; cost = c } in
-    ((λ e. let (room, f) = passed _ _ _ e in (tt, join-keeps _ _ _ _ refl h (leb-false _ _ room) (pipe-fits n p f))),
-     (λ k. let (_, l) = k in
-      let f = pushed-fits (PipeFits n) no-pipe (net .pipes) p (l .3) in
-      passes _ _ _ (lt-leb _ _ (omega (arith, l .1, length-append (net .pipes) (p ∷ [])))) (pipe-faultless n p f)))
+    let p : Pipe = record { first = a; second = b; cost = c } in (
+      (λ e. let (room, f) = passed _ _ _ e in (tt, join-keeps _ _ _ _ refl h (leb-false _ _ room) (pipe-fits n p f))),
+      (λ k. let (_, l) = k in
+          let f = pushed-fits (PipeFits n) no-pipe (net .pipes) p (l .3) in
+          passes _ _ _ (lt-leb _ _ (omega (arith, l .1, length-append (net .pipes) (p ∷ [])))) (pipe-faultless n p f)),
+    )
 accepted-within-limits net (remove p) h =
     ((λ e. let there = leb-false _ _ (passed _ _ _ e .0) in (there, remove-keeps _ _ _ p refl h)), (λ k. passes _ _ _ (lt-leb _ _ (k .0)) refl))
