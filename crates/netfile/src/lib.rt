@@ -3,4 +3,6 @@ pub mod file;
 mod header;
 pub mod laws;
 mod reading;
+#[cfg(test)]
+mod tests;
 mod writing;
