@@ -11,6 +11,8 @@ use std::error::AnyError;
 use std::fmt;
 use std::io;
 
+mod files;
+
 // A set of nodes, printed as its marks.
 #[derive(Clone, Copy)]
 struct District<'a> {
@@ -138,7 +140,8 @@ fn walk(rt: &LibcRuntime) -> Result<(), AnyError> {
     appraise(rt, &town, corner)?;
     appraise(rt, &town, triangle)?;
     relate(rt, &town, corner, triangle)?;
-    relate(rt, &town, corner, rest)
+    relate(rt, &town, corner, rest)?;
+    files::tour(rt, &town)
 }
 
 fn help(rt: &impl Print) -> io::Result<()> {
@@ -149,7 +152,11 @@ fn help(rt: &impl Print) -> io::Result<()> {
     )?;
     println!(
         rt,
-        "appraises two proposed districts of it, and prints each step."
+        "appraises two proposed districts of it, writes it to a network file"
+    )?;
+    println!(
+        rt,
+        "and reads the file back, whole and damaged, and prints each step."
     )
 }
 
