@@ -1,8 +1,8 @@
 -- That an accepted file is written back byte by byte, and that its network is within the limits.
 -- Assumes nothing.
-use mathlib.Core.List.{List, [], _∷_, _++_, map}
+use mathlib.Core.List.{List, _∷_, _++_}
 use mathlib.Core.Path.{_≡_, refl, ap, sym, subst, _∙_}
-use Prim.Native.Nat.{ℕ, _+_, _*_, _/_, _%_, _<_, _≤_}
+use Prim.Native.Nat.{ℕ, _+_, _*_, _/_, _%_, _<_}
 use native.Mathlib.Omega.{arith}
 use lib.ListN.{length, getD, take, drop, length-drop, length-map}
 use Rattle.std.proofs.shelf.Bits.{div-mul-add, mod-mul-add}
@@ -20,7 +20,7 @@ use Rattle.network.specs.Net.{Net, count}
 use Rattle.network.specs.Refusals.{answer, or-else}
 use Rattle.netfile.specs.Format.{Bytes, file-of, header, header-size, node-record, node-size, pipe-from, pipe-record, pipe-size, pipes-place, weight-from}
 use Rattle.netfile.specs.Laws.{Accepted-exactly, Accepted-is-written-back}
-use Rattle.netfile.specs.Meaning.{first-file-fault, header-fault, meaning, network-in, node-count, node-records, nodes-fault, pipe-count, pipe-records, pipes-fault}
+use Rattle.netfile.specs.Meaning.{first-file-fault, meaning, network-in, node-count, node-records, nodes-fault, pipe-count, pipe-records, pipes-fault}
 use Rattle.netfile.proofs.Cutting.{joined-chunked, length-chunked, node-again, pipe-again}
 use Rattle.netfile.proofs.Faultless.{each-faultless}
 use Rattle.netfile.proofs.Leading.{Good, good}
@@ -114,7 +114,7 @@ module _ (file : List ℕ) where
     records : joined node-record (network-in file .weights) ++ joined pipe-record (network-in file .pipes) ≡ drop header-size file
     records = rw (written-nodes, written-pipes) (take-append-drop (node-size * node-count file) (drop header-size file))
 
-    back : file-of (network-in file) ≡ file
+    pub back : file-of (network-in file) ≡ file
     unfolding file-of
     back =
         ap (λ n. header n (length (network-in file .pipes)) ++ (joined node-record (network-in file .weights) ++ joined pipe-record (network-in file .pipes))) count-is

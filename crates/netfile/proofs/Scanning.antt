@@ -1,6 +1,6 @@
 -- The first fault of a list of records, as a loop over them finds it.
 -- Assumes nothing.
-use mathlib.Core.List.{List, [], _∷_}
+use mathlib.Core.List.{List, []}
 use mathlib.Core.Path.{_≡_, refl, ap, sym, _∙_}
 use Prim.Native.Nat.{ℕ, _+_, _*_, _≤_, _<_}
 use native.Mathlib.Omega.{arith}
@@ -46,10 +46,10 @@ module _ (fault : List ℕ → Option Fault) (size place : ℕ) (records : List 
     pub scanned-more : r ≡ Ok tt → Scanned (i + 1)
     scanned-more ok = record { rest = (rw (answered-ok _ (sym e ∙ ok)) at (sym (unfolded i l))) ∙ s .rest }
 
-    pub scanned-err : (f g : Fault) → r ≡ Err f → g ≡ file-fault (f .refusal) (place + size * i) →
+    pub scanned-err : (f g : Fault) (p : ℕ) → r ≡ Err f → p ≡ place + size * i → g ≡ file-fault (f .refusal) p →
         Err g ≡ answer (first-fault fault size place records) (tt {0})
-    scanned-err f g err h =
-        rw h (ap (λ o. answer o (tt {0})) ((sym (rw (answered-err _ f (sym e ∙ err)) at (unfolded i l))) ∙ s .rest))
+    scanned-err f g p err at h =
+        rw (h, at) (ap (λ o. answer o (tt {0})) ((sym (rw (answered-err _ f (sym e ∙ err)) at (unfolded i l))) ∙ s .rest))
 
   pub scanned-ok : (i : ℕ) → length records ≤ i → Scanned i → Ok (tt {0}) ≡ answer (first-fault fault size place records) tt
   unfolding first-fault

@@ -1,31 +1,29 @@
 -- That a network written to a file loads as itself.
 -- Assumes nothing.
-use mathlib.Core.List.{List, [], _∷_, _++_, map}
-use mathlib.Core.Path.{_≡_, refl, ap, sym, _∙_}
-use Prim.Native.Nat.{ℕ, _+_, _*_, _/_, _%_, _<_, _≤_}
+use mathlib.Core.List.{List, [], _∷_, map}
+use mathlib.Core.Path.{_≡_, refl, ap, _∙_}
+use Prim.Native.Nat.{ℕ, _<_}
 use native.Mathlib.Omega.{arith}
 use lib.ListN.{length, getD, drop}
 use Rattle.std.proofs.shelf.Bits.{div-add-mod', div-below, mod-below}
-use Rattle.std.proofs.shelf.Elements.{all-append, all-from-getD, all-map, all-weaker}
-use Rattle.std.proofs.shelf.Lists.{append-nil, drop-at}
+use Rattle.std.proofs.shelf.Elements.{all-append, all-from-getD, all-map}
+use Rattle.std.proofs.shelf.Lists.{append-nil}
 use Rattle.std.specs.Joined.{joined}
-use Rattle.std.specs.Vectors.{chunked}
 use Rattle.std.specs.declared.option.Option.the-variants.{None}
 use Rattle.std.specs.declared.result.Result.the-variants.{Ok}
 use Rattle.std.specs.shelf.Lists.{All}
 use Rattle.network.proofs.Accepting.{pipe-faultless, weight-faultless}
 use Rattle.network.specs.declared.pipe.Pipe.{Pipe}
 use Rattle.network.specs.Edits.{pipe-fault, weight-fault}
-use Rattle.network.specs.Limits.{PipeFits, WeightFits, WithinLimits, no-pipe}
+use Rattle.network.specs.Limits.{WithinLimits, no-pipe}
 use Rattle.network.specs.Net.{Net, count}
-use Rattle.netfile.specs.Format.{Bytes, bytes-of, file-of, file-size, header, header-size, node-record, node-size, pipe-from, pipe-record, pipe-size, pipes-place, weight-from}
+use Rattle.netfile.specs.Format.{Bytes, bytes-of, file-of, header-size, node-record, node-size, pipe-from, pipe-record, pipe-size, pipes-place, weight-from}
 use Rattle.netfile.specs.Laws.{Written-in-bytes, Written-loads-as-itself}
 use Rattle.netfile.specs.Meaning.{header-fault, meaning, node-count, node-records, nodes-fault, pipe-count, pipe-records, pipes-fault}
 use Rattle.netfile.proofs.Cutting.{chunked-joined}
 use Rattle.netfile.proofs.Faultless.{all-faultless}
 use Rattle.netfile.proofs.Files.{behind-nodes, length-file}
 use Rattle.netfile.proofs.Leading.{faultless}
-use Rattle.netfile.proofs.Pasting.{length-joined}
 
 -- a record is read as what was written
 weights-again : (ws : List ℕ) → map weight-from (map node-record ws) ≡ ws

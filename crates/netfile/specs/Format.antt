@@ -46,9 +46,16 @@ pipe-size = 4
 abbrev pub pipes-place : ℕ → ℕ
 pipes-place n = header-size + node-size * n
 
--- how long a file of n nodes and m pipes is
+-- where the record of node v begins, and that of pipe p, behind those of n nodes
+abbrev pub node-place : ℕ → ℕ
+node-place v = header-size + node-size * v
+
+abbrev pub pipe-place : ℕ → ℕ → ℕ
+pipe-place n p = pipes-place n + pipe-size * p
+
+-- how long a file of n nodes and m pipes is: it ends where one more pipe would begin
 abbrev pub file-size : ℕ → ℕ → ℕ
-file-size n m = pipes-place n + pipe-size * m
+file-size n m = pipe-place n m
 
 -- a 16-bit number by its two bytes, and the bytes by the number
 abbrev pub number-of : ℕ → ℕ → ℕ

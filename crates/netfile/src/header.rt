@@ -1,11 +1,12 @@
 // The leading bytes of a file, and its records behind them.
+ghost use mathlib.Core.List.{map};
 ghost use mathlib.Core.Path.{_≡_};
 ghost use Prim.Native.Nat.{_≤_};
 ghost use lib.ListN.{length};
 ghost use Rattle.std.specs.Results.{errPart};
 ghost use Rattle.std.specs.Vec.{made};
 ghost use Rattle.network.specs.Limits.{max-nodes, max-pipes};
-ghost use Rattle.netfile.specs.Format.{Bytes, file-size};
+ghost use Rattle.netfile.specs.Format.{file-of, file-size, net-of, node-place, pipe-from, pipe-place, weight-from};
 ghost use Rattle.netfile.specs.Meaning.{header-fault, mark-place, node-count, node-records, pipe-records};
 use faults::fault::Fault;
 use faults::refusal::Refusal;
@@ -22,11 +23,11 @@ const NODE_COUNT_PLACE: usize = 5;
 const PIPE_COUNT_PLACE: usize = 6;
 
 // How many bytes come before the records, and how many the record of a node and of a pipe has.
-pub(crate) const HEADER_SIZE: usize = 8;
+const HEADER_SIZE: usize = 8;
 
-pub(crate) const NODE_SIZE: usize = 2;
+const NODE_SIZE: usize = 2;
 
-pub(crate) const PIPE_SIZE: usize = 4;
+const PIPE_SIZE: usize = 4;
 
 // The records of a file, those of the nodes and those of the pipes.
 #[derive(Clone, Copy)]
@@ -35,12 +36,28 @@ pub(crate) struct Records<'a> {
     pub(crate) pipes: &'a [[u8; 4]],
 }
 
-// How long a file of so many nodes and pipes is.
+// Where the record of this node begins.
+pub(crate) fn node_place(node: usize) -> usize
+    requires { ⌜ node ≤ max-nodes ⌝ }
+    ensures { λ r. ⌜ r ≡ node-place node ⌝ }
+{
+    HEADER_SIZE + NODE_SIZE * node
+}
+
+// Where the record of this pipe begins, behind those of so many nodes.
+pub(crate) fn pipe_place(nodes: usize, pipe: usize) -> usize
+    requires { ⌜ (nodes ≤ max-nodes) × (pipe ≤ max-pipes) ⌝ }
+    ensures { λ r. ⌜ r ≡ pipe-place nodes pipe ⌝ }
+{
+    HEADER_SIZE + NODE_SIZE * nodes + PIPE_SIZE * pipe
+}
+
+// How long a file of so many nodes and pipes is: it ends where one more pipe would begin.
 pub(crate) fn file_size(nodes: usize, pipes: usize) -> usize
     requires { ⌜ (nodes ≤ max-nodes) × (pipes ≤ max-pipes) ⌝ }
     ensures { λ r. ⌜ r ≡ file-size nodes pipes ⌝ }
 {
-    HEADER_SIZE + NODE_SIZE * nodes + PIPE_SIZE * pipes
+    pipe_place(nodes, pipes)
 }
 
 // The first of bytes 0 to 2 that is not the mark's, or else the file's length.
@@ -55,15 +72,14 @@ fn mark_place(file: &[u8]) -> usize
     }
 }
 
-// Tests the leading bytes and the length, and cuts the rest into records.
-// That the file is a list of bytes is said once here, where its elements are read, for the law that needs it.
+// Tests the leading bytes and the length, and cuts the rest into records. What they say has this file.
 pub(crate) fn open(file: &[u8]) -> Result<Records<'_>, Fault>
     ensures fault { λ r. ⌜ errPart r ≡ header-fault (now (file .entry)) ⌝ }
     ensures nodes { λ r. ⌜ made r (λ records. now (records .nodes) ≡ node-records (now (file .entry))) ⌝ }
     ensures pipes { λ r. ⌜ made r (λ records. now (records .pipes) ≡ pipe-records (now (file .entry))) ⌝ }
     ensures node_count { λ r. ⌜ made r (λ records. (length (now (records .nodes)) ≡ node-count (now (file .entry))) × (length (now (records .nodes)) ≤ max-nodes)) ⌝ }
     ensures pipe_count { λ r. ⌜ made r (λ records. length (now (records .pipes)) ≤ max-pipes) ⌝ }
-    ensures bytes { λ r. ⌜ made r (λ _. Bytes (now (file .entry))) ⌝ }
+    ensures written { λ r. ⌜ made r (λ records. file-of (net-of (map weight-from (now (records .nodes))) (map pipe-from (now (records .pipes)))) ≡ now (file .entry)) ⌝ }
 {
     let [b'D', b'Z', b'N', v1, v0, nodes, p1, p0, records @ ..] = file else {
         return Err(Fault::file(Refusal::NotANetworkFile, mark_place(file)));

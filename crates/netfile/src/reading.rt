@@ -10,9 +10,8 @@ ghost use Rattle.network.specs.Refusals.{answer};
 ghost use Rattle.network.specs.View.{view};
 ghost use Rattle.netfile.specs.Format.{net-of, pipe-from, weight-from};
 ghost use Rattle.netfile.specs.Meaning.{nodes-fault, pipes-fault};
-use crate::header::HEADER_SIZE;
-use crate::header::NODE_SIZE;
-use crate::header::PIPE_SIZE;
+use crate::header::node_place;
+use crate::header::pipe_place;
 use faults::fault::Fault;
 use network::limits::check_pipe;
 use network::limits::check_weight;
@@ -45,7 +44,7 @@ pub(crate) fn check_nodes(records: &[[u8; 2]]) -> Result<(), Fault>
 {
     for (v, record) in records.iter().enumerate() {
         if let Err(fault) = check_weight(weight_from(*record)) {
-            return Err(Fault::file(fault.refusal, HEADER_SIZE + NODE_SIZE * v));
+            return Err(Fault::file(fault.refusal, node_place(v)));
         }
     }
     Ok(())
@@ -57,10 +56,9 @@ pub(crate) fn check_pipes(nodes: usize, records: &[[u8; 4]]) -> Result<(), Fault
     requires pipes { ⌜ length (now records) ≤ max-pipes ⌝ }
     ensures { λ r. ⌜ r ≡ answer (pipes-fault nodes (now (records .entry))) Prim.tt ⌝ }
 {
-    let place = HEADER_SIZE + NODE_SIZE * nodes;
     for (p, record) in records.iter().enumerate() {
         if let Err(fault) = check_pipe(nodes, pipe_from(*record)) {
-            return Err(Fault::file(fault.refusal, place + PIPE_SIZE * p));
+            return Err(Fault::file(fault.refusal, pipe_place(nodes, p)));
         }
     }
     Ok(())

@@ -9,11 +9,10 @@ ghost use Rattle.network.specs.Limits.{Limits, PipeFits, PipesFit, WeightFits, 
 ghost use Rattle.netfile.specs.Answers.{over};
 ghost use Rattle.netfile.specs.Format.{file-of, file-size, header, header-size, net-of, node-record, node-size, pipe-record, pipe-size, pipes-place};
 ghost use Rattle.netfile.specs.Meaning.{meaning};
-use crate::header::HEADER_SIZE;
-use crate::header::NODE_SIZE;
-use crate::header::PIPE_SIZE;
 use crate::header::VERSION;
 use crate::header::file_size;
+use crate::header::node_place;
+use crate::header::pipe_place;
 use network::pipe::Pipe;
 
 // Writes the bytes over those of the buffer from this place on.
@@ -56,24 +55,25 @@ pub(crate) fn put_header(out: &mut [u8], nodes: usize, pipes: usize)
 // Writes the records of the nodes.
 pub(crate) fn put_nodes(out: &mut [u8], weights: &[u32])
     requires room { ⌜ pipes-place (length (now weights)) ≤ length (now out) ⌝ }
+    requires few { ⌜ length (now weights) ≤ max-nodes ⌝ }
     requires fit { ⌜ WeightsFit (now weights) ⌝ }
     ensures { λ _. ⌜ now (out .exit) ≡ paste (now (out .entry)) header-size (joined node-record (now (weights .entry))) (node-size * length (now (weights .entry))) ⌝ }
 {
     for (v, weight) in weights.iter().enumerate() {
-        put(out, HEADER_SIZE + NODE_SIZE * v, &node_record(*weight));
+        put(out, node_place(v), &node_record(*weight));
     }
 }
 
 // Writes the records of the pipes behind those of so many nodes.
 pub(crate) fn put_pipes(out: &mut [u8], nodes: usize, pipes: &[Pipe])
     requires room { ⌜ file-size nodes (length (now pipes)) ≤ length (now out) ⌝ }
-    requires fit { ⌜ PipesFit nodes (now pipes) ⌝ }
     requires nodes { ⌜ nodes ≤ max-nodes ⌝ }
+    requires pipes { ⌜ length (now pipes) ≤ max-pipes ⌝ }
+    requires fit { ⌜ PipesFit nodes (now pipes) ⌝ }
     ensures { λ _. ⌜ now (out .exit) ≡ paste (now (out .entry)) (pipes-place nodes) (joined pipe-record (now (pipes .entry))) (pipe-size * length (now (pipes .entry))) ⌝ }
 {
-    let place = HEADER_SIZE + NODE_SIZE * nodes;
     for (p, pipe) in pipes.iter().enumerate() {
-        put(out, place + PIPE_SIZE * p, &pipe_record(*pipe));
+        put(out, pipe_place(nodes, p), &pipe_record(*pipe));
     }
 }
 

@@ -10,7 +10,8 @@ pub loop-p-again : need.loop-p-again
 loop-p-again c = scanned-more _ _ _ _ _ (c .loop-p-test .taken) _ (search needs) (c .loop-p .inv) (c .in-rest .is)
 
 pub returns-in-Err : need.returns-in-Err
-returns-in-Err c = scanned-err _ _ _ _ _ (c .loop-p-test .taken) _ (search needs) (c .loop-p .inv) _ _ (c .in-Err .is) (c .file .ensures)
+returns-in-Err c =
+    scanned-err _ _ _ _ _ (c .loop-p-test .taken) _ (search needs) (c .loop-p .inv) _ _ _ (c .in-Err .is) (c .pipe-place .ensures) (c .file .ensures)
 
 pub returns : need.returns
 returns c = scanned-ok _ _ _ _ _ (omega arith) (c .loop-p .inv)

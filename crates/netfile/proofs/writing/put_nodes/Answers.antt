@@ -10,8 +10,8 @@ loop-v-holds c = pasted-none node-record node-size (λ x. refl) (c .args .out .n
 
 pub loop-v-again : need.loop-v-again
 loop-v-again c =
-    pasted-more node-record node-size (λ x. refl) (c .args .out .now) header-size (c .args .weights .now) 0 _ (c .loop-v-test .taken) (omega arith) _ _ _
-    (search needs) (c .loop-v .inv) (c .put .ensures)
+    pasted-more node-record node-size (λ x. refl) (c .args .out .now) header-size (c .args .weights .now) 0 _ (c .loop-v-test .taken) (omega arith) _ _ _ _
+    (c .node-place .ensures) (search needs) (c .loop-v .inv) (c .put .ensures)
 
 pub returns : need.returns
 returns c = c .loop-v .inv ∙ pasted-all node-record node-size (λ x. refl) (c .args .out .now) header-size (c .args .weights .now) (c .loop-v .v) (omega arith)

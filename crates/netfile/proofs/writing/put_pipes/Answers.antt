@@ -11,8 +11,8 @@ loop-p-holds c = pasted-none pipe-record pipe-size (λ x. refl) (c .args .out .n
 
 pub loop-p-again : need.loop-p-again
 loop-p-again c =
-    pasted-more pipe-record pipe-size (λ x. refl) (c .args .out .now) (pipes-place (c .args .nodes)) (c .args .pipes .now) no-pipe _ (c .loop-p-test .taken) (omega arith) _ _ _
-    (search needs) (c .loop-p .inv) (c .put .ensures)
+    pasted-more pipe-record pipe-size (λ x. refl) (c .args .out .now) (pipes-place (c .args .nodes)) (c .args .pipes .now) no-pipe _ (c .loop-p-test .taken) (omega arith) _ _ _ _
+    (c .pipe-place .ensures) (search needs) (c .loop-p .inv) (c .put .ensures)
 
 pub returns : need.returns
 returns c = c .loop-p .inv ∙ pasted-all pipe-record pipe-size (λ x. refl) (c .args .out .now) (pipes-place (c .args .nodes)) (c .args .pipes .now) (c .loop-p .p) (omega arith)
