@@ -42,13 +42,13 @@ node-size = 2
 abbrev pub pipe-size : ℕ
 pipe-size = 4
 
--- where the pipes' records begin, after those of n nodes
-abbrev pub pipes-place : ℕ → ℕ
-pipes-place n = header-size + node-size * n
-
--- where the record of node v begins, and that of pipe p, behind those of n nodes
+-- where the record of node v begins
 abbrev pub node-place : ℕ → ℕ
 node-place v = header-size + node-size * v
+
+-- where the pipes' records begin, behind those of n nodes, and where the record of pipe p begins
+abbrev pub pipes-place : ℕ → ℕ
+pipes-place n = node-place n
 
 abbrev pub pipe-place : ℕ → ℕ → ℕ
 pipe-place n p = pipes-place n + pipe-size * p
