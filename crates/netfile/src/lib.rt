@@ -3,6 +3,4 @@ pub mod file;
 mod header;
 pub mod laws;
 mod reading;
-#[cfg(test)]
-mod tests;
 mod writing;

@@ -5,5 +5,3 @@ mod marks;
 pub mod network;
 pub mod pipe;
 mod sums;
-#[cfg(test)]
-mod tests;

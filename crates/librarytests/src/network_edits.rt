@@ -1,10 +1,10 @@
 // The limits at their edges, the order of refusals, and the scores of a board worked by hand.
-use crate::network::Network;
 use faults::fault::Fault;
 use faults::fault::FaultDebug;
 use faults::fault::FaultPartialEq;
 use faults::layer::Layer;
 use faults::refusal::Refusal;
+use network::network::Network;
 use std::alloc::Global;
 use std::test::*;
 

@@ -1,10 +1,10 @@
 // The worked file, each refusal with its place, and buffers of several lengths.
-use crate::file::read;
-use crate::file::write;
 use faults::fault::Fault;
 use faults::fault::FaultDebug;
 use faults::fault::FaultPartialEq;
 use faults::refusal::Refusal;
+use netfile::file::read;
+use netfile::file::write;
 use network::network::Network;
 use std::alloc::Global;
 use std::test::*;
