@@ -14,10 +14,10 @@ use Rattle.std.specs.declared.option.Option.{Option}
 use Rattle.std.specs.declared.option.Option.the-variants.{Some, None}
 use Rattle.std.specs.declared.result.Result.the-variants.{Ok}
 use Rattle.faults.specs.declared.fault.Fault.{Fault}
-use Rattle.network.proofs.Accepting.{pipe-fits, weight-fits}
+use Rattle.network.proofs.Accepting.{both-passed, pipe-fits, weight-fits}
 use Rattle.network.specs.Limits.{PipeFits, WeightFits, WithinLimits, no-pipe}
 use Rattle.network.specs.Net.{Net, count}
-use Rattle.network.specs.Refusals.{answer, or-else}
+use Rattle.network.specs.Refusals.{answer}
 use Rattle.netfile.specs.Format.{Bytes, file-of, header, header-size, node-record, node-size, pipe-from, pipe-record, pipe-size, pipes-place, weight-from}
 use Rattle.netfile.specs.Laws.{Accepted-exactly, Accepted-is-written-back}
 use Rattle.netfile.specs.Meaning.{first-file-fault, meaning, network-in, node-count, node-records, nodes-fault, pipe-count, pipe-records, pipes-fault}
@@ -31,10 +31,6 @@ accepted : (o : Option Fault) (x y : Net) → answer o x ≡ Ok y → (o ≡ Non
 accepted (Some f) x y e = let z : _≡_ {A = ℕ} 0 1 = cc in absurd (omega arith)
 accepted None x y e = (refl, cc)
 
-both : (f later : Option Fault) → or-else f later ≡ None → (f ≡ None) × (later ≡ None)
-both (Some f) later e = let z : _≡_ {A = ℕ} 0 1 = cc in absurd (omega arith)
-both None later e = (refl, e)
-
 module _ (file : List ℕ) where
   pub record Faultless : Type 0 where
     pub leading : Good file
@@ -43,8 +39,8 @@ module _ (file : List ℕ) where
 
   parts : first-file-fault file ≡ None → Faultless
   parts e =
-      let (f, g) = both _ _ e in
-      let (h, i) = both _ _ g in
+      let (f, g) = both-passed _ _ e in
+      let (h, i) = both-passed _ _ g in
       record { leading = good file f; nodes = h; pipes = i }
 
   count-is : count (network-in file) ≡ node-count file

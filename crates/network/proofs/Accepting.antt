@@ -48,7 +48,7 @@ not-bad : (n a b : ℕ) → a < n → b < n → (a ≡ b → ⊥) → bad-ends n
 not-bad n a b p q r = or-from _ _ (lt-leb n a p) (or-from _ _ (lt-leb n b q) (ne-eqb a b r))
 
 -- one of two faults is due just where either is
-both-passed : (f later : Option Fault) → or-else f later ≡ None → (f ≡ None) × (later ≡ None)
+pub both-passed : (f later : Option Fault) → or-else f later ≡ None → (f ≡ None) × (later ≡ None)
 both-passed (Some f) later e = absurd (refused f e)
 both-passed None later e = (refl, e)
 
