@@ -1,25 +1,24 @@
 // Reads a network file named on the command line, and prints what it holds or why it is refused.
 ghost use mathlib.Core.Path.{_≡_};
-ghost use Rattle.std.specs.Vec.{made};
-ghost use Rattle.std.specs.declared.result.Result.the-variants.{Ok};
+ghost use Rattle.std.specs.Results.{Cases};
+ghost use Rattle.std.specs.declared.result.Result.the-variants.{Err, Ok};
 ghost use Rattle.netfile.specs.Meaning.{meaning};
 ghost use Rattle.network.specs.View.{view};
+use faults::fault::Fault;
 use faults::fault::FaultDisplay;
 use faults::fault::FaultError;
 use netfile::file::read;
 use network::network::Network;
 use network::pipe::Pipe;
-use std::alloc::Global;
 use std::env;
 use std::error::AnyError;
 use std::fs;
 use std::io;
 
-// The network that the file means.
-fn load(heap: Global, file: &[u8]) -> Result<Network, AnyError>
-    ensures { λ r. ⌜ made r (λ network. meaning (now (file .entry)) ≡ Ok (view network)) ⌝ }
+// The network that the file means, in place of the one given, or the fault for which it is refused.
+fn load(mut network: Network, file: &[u8]) -> Result<Network, Fault>
+    ensures { λ r. ⌜ Cases r (λ loaded. meaning (now (file .entry)) ≡ Ok (view loaded)) (λ fault. meaning (now (file .entry)) ≡ Err fault) ⌝ }
 {
-    let mut network = Network::new(heap)?;
     read(file, &mut network)?;
     Ok(network)
 }
@@ -44,7 +43,7 @@ fn print_network(rt: &impl Print, network: &Network) -> io::Result<()> {
 
 fn check(rt: &LibcRuntime, path: &str) -> Result<(), AnyError> {
     let file = fs::read(rt, path)?;
-    let network = load(rt.alloc(), file.as_slice())?;
+    let network = load(Network::new(rt.alloc())?, file.as_slice())?;
     print_network(rt, &network)?;
     Ok(())
 }

@@ -1,7 +1,7 @@
 -- That an accepted file is written back byte by byte, and that its network is within the limits.
 -- Assumes nothing.
 use mathlib.Core.List.{List, _∷_, _++_}
-use mathlib.Core.Path.{_≡_, refl, ap, sym, subst, _∙_}
+use mathlib.Core.Path.{_≡_, ap, sym, subst, _∙_}
 use Prim.Native.Nat.{ℕ, _+_, _*_, _/_, _%_, _<_}
 use native.Mathlib.Omega.{arith}
 use lib.ListN.{length, getD, take, drop, length-drop, length-map}
@@ -10,28 +10,22 @@ use Rattle.std.proofs.shelf.Elements.{all-drop, all-getD, all-map, all-weaker}
 use Rattle.std.proofs.shelf.Lists.{drop-drop, drop-more, take-all, take-append-drop}
 use Rattle.std.specs.Joined.{joined}
 use Rattle.std.specs.shelf.Lists.{All}
-use Rattle.std.specs.declared.option.Option.{Option}
-use Rattle.std.specs.declared.option.Option.the-variants.{Some, None}
+use Rattle.std.specs.declared.option.Option.the-variants.{None}
 use Rattle.std.specs.declared.result.Result.the-variants.{Ok}
-use Rattle.faults.specs.declared.fault.Fault.{Fault}
 use Rattle.network.proofs.Accepting.{both-passed, pipe-fits, weight-fits}
 use Rattle.network.specs.Limits.{PipeFits, WeightFits, WithinLimits, no-pipe}
-use Rattle.network.specs.Net.{Net, count}
-use Rattle.network.specs.Refusals.{answer}
+use Rattle.network.specs.Net.{count}
 use Rattle.netfile.specs.Format.{Bytes, file-of, header, header-size, node-record, node-size, pipe-from, pipe-record, pipe-size, pipes-place, weight-from}
 use Rattle.netfile.specs.Laws.{Accepted-exactly, Accepted-is-written-back}
 use Rattle.netfile.specs.Meaning.{first-file-fault, meaning, network-in, node-count, node-records, nodes-fault, pipe-count, pipe-records, pipes-fault}
 use Rattle.netfile.proofs.Cutting.{joined-chunked, length-chunked, node-again, pipe-again}
 use Rattle.netfile.proofs.Faultless.{each-faultless}
 use Rattle.netfile.proofs.Leading.{Good, good}
+use Rattle.netfile.proofs.Scanning.{answered-ok}
 use Rattle.netfile.proofs.Written.{written-loads-as-itself}
 
--- what an accepted file shows: no fault of any part, and the network is the one of its records
-accepted : (o : Option Fault) (x y : Net) → answer o x ≡ Ok y → (o ≡ None) × (x ≡ y)
-accepted (Some f) x y e = let z : _≡_ {A = ℕ} 0 1 = cc in absurd (omega arith)
-accepted None x y e = (refl, cc)
-
 module _ (file : List ℕ) where
+  -- what an accepted file shows: no fault of any part
   pub record Faultless : Type 0 where
     pub leading : Good file
     pub nodes : nodes-fault (node-records file) ≡ None
@@ -119,11 +113,11 @@ module _ (file : List ℕ) where
 
 pub accepted-is-written-back : Accepted-is-written-back
 accepted-is-written-back file net bytes e =
-    let (o, same) = accepted _ _ net e in
+    let (o, same) = answered-ok _ _ net e in
     subst (λ n. file-of n ≡ file) same (back file bytes (parts file o .leading))
 
 pub accepted-exactly : Accepted-exactly
 accepted-exactly file net bytes = (
-  (λ e. let (o, same) = accepted _ _ net e in (subst WithinLimits same (limits file (parts file o)), accepted-is-written-back file net bytes e)),
+  (λ e. let (o, same) = answered-ok _ _ net e in (subst WithinLimits same (limits file (parts file o)), accepted-is-written-back file net bytes e)),
   (λ k. let (h, same) = k in subst (λ f. meaning f ≡ Ok net) same (written-loads-as-itself net h)),
 )

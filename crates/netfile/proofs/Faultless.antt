@@ -1,4 +1,4 @@
--- Records of which none has a fault.
+-- What the first fault of some records says of each: that none has a fault, or which is the first that has one.
 -- Assumes nothing.
 use mathlib.Core.List.{List, [], _∷_}
 use mathlib.Core.Path.{_≡_, refl, ap, sym, _∙_}
@@ -15,11 +15,11 @@ use Rattle.network.specs.Refusals.{or-else}
 use Rattle.netfile.specs.Laws.{First-faulty-record, OfFirstFaulty}
 use Rattle.netfile.specs.Meaning.{at-place, first-fault}
 
-module _ (fault : List ℕ → Option Fault) (size : ℕ) where
-  unplaced : (place : ℕ) (o : Option Fault) → at-place place o ≡ None → o ≡ None
-  unplaced place (Some f) e = let z : _≡_ {A = ℕ} 0 1 = cc in absurd (omega arith)
-  unplaced place None e = refl
+unplaced : (place : ℕ) (o : Option Fault) → at-place place o ≡ None → o ≡ None
+unplaced place (Some f) e = let z : _≡_ {A = ℕ} 0 1 = cc in absurd (omega arith)
+unplaced place None e = refl
 
+module _ (fault : List ℕ → Option Fault) (size : ℕ) where
   pub each-faultless : (place : ℕ) (records : List (List ℕ)) → first-fault fault size place records ≡ None → All (λ r. fault r ≡ None) records
   unfolding first-fault
   each-faultless place [] e = tt

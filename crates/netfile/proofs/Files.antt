@@ -50,7 +50,7 @@ module _ (net : Net) where
       let h = header (count net) (length (net .pipes)) in
       let ns = joined node-record (net .weights) in
       let ps = joined pipe-record (net .pipes) in
-      let two : b ≡ paste out 0 (h ++ ns) (pipes-place (count net)) = rw (q, p) (paste-paste out 0 h ns 8 (node-size * count net) refl (sym length-nodes) (omega arith)) in
+      let two : b ≡ paste out 0 (h ++ ns) (pipes-place (count net)) = rw (q, p) (paste-paste out 0 h ns header-size (node-size * count net) refl (sym length-nodes) (omega arith)) in
       let n = sym length-front in
       let z : pipes-place (count net) ≡ 0 + pipes-place (count net) = omega arith in
       let three : c ≡ paste out 0 ((h ++ ns) ++ ps) (file-size (count net) (length (net .pipes))) =

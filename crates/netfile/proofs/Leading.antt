@@ -1,27 +1,17 @@
 -- The leading bytes and the length of a file that have no fault.
 -- Assumes nothing.
-use mathlib.Core.Bool.{Bool, true, false}
+use mathlib.Core.Bool.{false}
 use mathlib.Core.List.{List}
 use mathlib.Core.Path.{_≡_, refl}
 use Prim.Native.Nat.{ℕ, _≤_, _<_}
 use native.Mathlib.Omega.{arith}
 use lib.ListN.{length, getD}
 use Rattle.std.proofs.shelf.Tests.{and-right, eq-eqb, eqb-true, le-ltb, lt-ltb, ltb-false, not-false, not-from-true, or-from, or-parts}
-use Rattle.std.specs.declared.option.Option.{Option}
 use Rattle.std.specs.declared.option.Option.the-variants.{None}
-use Rattle.faults.specs.declared.fault.Fault.{Fault}
-use Rattle.faults.specs.declared.refusal.Refusal.{Refusal}
+use Rattle.network.proofs.Accepting.{passed, passes}
 use Rattle.network.specs.Limits.{max-nodes, max-pipes}
-use Rattle.netfile.specs.Format.{header-size, mark, version}
-use Rattle.netfile.specs.Meaning.{differs, header-fault, node-count, number-at, pipe-count, refuse-at, size-due}
-
--- the test passes just where the condition fails and nothing later refuses
-passed : (b : Bool) (r : Refusal) (place : ℕ) (later : Option Fault) → refuse-at b r place later ≡ None → (b ≡ false) × (later ≡ None)
-passed true r place later e = let z : _≡_ {A = ℕ} 0 1 = cc in absurd (omega arith)
-passed false r place later e = (refl, e)
-
-passes : (b : Bool) (r : Refusal) (place : ℕ) (later : Option Fault) → b ≡ false → later ≡ None → refuse-at b r place later ≡ None
-passes b r place later e n = rw e n
+use Rattle.netfile.specs.Format.{header-size, mark, version, version-place}
+use Rattle.netfile.specs.Meaning.{differs, header-fault, node-count, number-at, pipe-count, size-due}
 
 module _ (file : List ℕ) where
   pub record Good : Type 0 where
@@ -29,7 +19,7 @@ module _ (file : List ℕ) where
     pub first : getD file 0 0 ≡ getD mark 0 0
     pub second : getD file 1 0 ≡ getD mark 1 0
     pub third : getD file 2 0 ≡ getD mark 2 0
-    pub known : number-at file 3 ≡ version
+    pub known : number-at file version-place ≡ version
     pub nodes : node-count file ≤ max-nodes
     pub pipes : pipe-count file ≤ max-pipes
     pub whole : length file ≡ size-due file
@@ -42,11 +32,11 @@ module _ (file : List ℕ) where
 
   pub good : header-fault file ≡ None → Good
   good e =
-      let (marks, f) = passed _ _ _ _ e in
-      let (known, g) = passed _ _ _ _ f in
-      let (nodes, h) = passed _ _ _ _ g in
-      let (pipes, i) = passed _ _ _ _ h in
-      let (whole, _) = passed _ _ _ _ i in
+      let (marks, f) = passed _ _ _ e in
+      let (known, g) = passed _ _ _ f in
+      let (nodes, h) = passed _ _ _ g in
+      let (pipes, i) = passed _ _ _ h in
+      let (whole, _) = passed _ _ _ i in
       let (short, differ) = or-parts _ _ marks in
       let (d, differ′) = or-parts _ _ differ in
       let (z, n) = or-parts _ _ differ′ in
@@ -64,8 +54,8 @@ module _ (file : List ℕ) where
 
   pub faultless : Good → header-fault file ≡ None
   faultless g =
-      passes _ _ _ _ (or-from _ _ (le-ltb _ _ (g .long)) (or-from _ _ (not-differs 0 (g .first)) (or-from _ _ (not-differs 1 (g .second)) (not-differs 2 (g .third)))))
-      (passes _ _ _ _ (not-from-true _ (eq-eqb _ _ (g .known)))
-      (passes _ _ _ _ (le-ltb _ _ (g .nodes))
-      (passes _ _ _ _ (le-ltb _ _ (g .pipes))
-      (passes _ _ _ _ (not-from-true _ (eq-eqb _ _ (g .whole))) refl))))
+      passes _ _ _ (or-from _ _ (le-ltb _ _ (g .long)) (or-from _ _ (not-differs 0 (g .first)) (or-from _ _ (not-differs 1 (g .second)) (not-differs 2 (g .third)))))
+      (passes _ _ _ (not-from-true _ (eq-eqb _ _ (g .known)))
+      (passes _ _ _ (le-ltb _ _ (g .nodes))
+      (passes _ _ _ (le-ltb _ _ (g .pipes))
+      (passes _ _ _ (not-from-true _ (eq-eqb _ _ (g .whole))) refl))))

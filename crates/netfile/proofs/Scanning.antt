@@ -15,14 +15,14 @@ use Rattle.faults.specs.declared.fault.Fault.{Fault}
 use Rattle.network.specs.Refusals.{answer, or-else}
 use Rattle.netfile.specs.Meaning.{at-place, first-fault}
 
--- what the answer of a test says of the fault that was due
-answered-err : (o : Option Fault) (f : Fault) → answer o (tt {0}) ≡ Err f → o ≡ Some f
-answered-err (Some g) f e = cc
-answered-err None f e = let z : _≡_ {A = ℕ} 0 1 = cc in absurd (omega arith)
+-- what an answer says of the fault that was due
+answered-err : {T : Type 0} (o : Option Fault) (x : T) (f : Fault) → answer o x ≡ Err f → o ≡ Some f
+answered-err (Some g) x f e = cc
+answered-err None x f e = let z : _≡_ {A = ℕ} 0 1 = cc in absurd (omega arith)
 
-answered-ok : (o : Option Fault) → answer o (tt {0}) ≡ Ok tt → o ≡ None
-answered-ok (Some g) e = let z : _≡_ {A = ℕ} 0 1 = cc in absurd (omega arith)
-answered-ok None e = refl
+pub answered-ok : {T : Type 0} (o : Option Fault) (x y : T) → answer o x ≡ Ok y → (o ≡ None) × (x ≡ y)
+answered-ok (Some g) x y e = let z : _≡_ {A = ℕ} 0 1 = cc in absurd (omega arith)
+answered-ok None x y e = (refl, cc)
 
 module _ (fault : List ℕ → Option Fault) (size place : ℕ) (records : List (List ℕ)) where
   -- no fault among the first i records: the first fault is that of the others
@@ -44,12 +44,12 @@ module _ (fault : List ℕ → Option Fault) (size place : ℕ) (records : List 
   -- r is the answer of the test of record i
   module _ (i : ℕ) (l : i < length records) (r : Result (Unit {0}) Fault) (e : r ≡ answer (fault (getD records i [])) tt) (s : Scanned i) where
     pub scanned-more : r ≡ Ok tt → Scanned (i + 1)
-    scanned-more ok = record { rest = (rw (answered-ok _ (sym e ∙ ok)) at (sym (unfolded i l))) ∙ s .rest }
+    scanned-more ok = record { rest = (rw (answered-ok _ _ _ (sym e ∙ ok) .0) at (sym (unfolded i l))) ∙ s .rest }
 
     pub scanned-err : (f g : Fault) (p : ℕ) → r ≡ Err f → p ≡ place + size * i → g ≡ file-fault (f .refusal) p →
         Err g ≡ answer (first-fault fault size place records) (tt {0})
     scanned-err f g p err at h =
-        rw (h, at) (ap (λ o. answer o (tt {0})) ((sym (rw (answered-err _ f (sym e ∙ err)) at (unfolded i l))) ∙ s .rest))
+        rw (h, at) (ap (λ o. answer o (tt {0})) ((sym (rw (answered-err _ _ f (sym e ∙ err)) at (unfolded i l))) ∙ s .rest))
 
   pub scanned-ok : (i : ℕ) → length records ≤ i → Scanned i → Ok (tt {0}) ≡ answer (first-fault fault size place records) tt
   unfolding first-fault

@@ -1,6 +1,6 @@
 -- What a list of bytes means as a network file: a network, or the fault for which it is refused.
 -- Assumes nothing.
-use mathlib.Core.Bool.{Bool, true, false, not, _&&_, _||_, cond}
+use mathlib.Core.Bool.{Bool, not, _&&_, _||_, cond}
 use mathlib.Core.List.{List, [], _∷_, map}
 use Prim.Native.Nat.{ℕ, _+_, min}
 use lib.Dec.{eqb, ltb}
@@ -16,13 +16,12 @@ use Rattle.faults.specs.declared.refusal.Refusal.the-variants.{NotANetworkFile,
 use Rattle.network.specs.Edits.{weight-fault, pipe-fault}
 use Rattle.network.specs.Limits.{max-nodes, max-pipes}
 use Rattle.network.specs.Net.{Net}
-use Rattle.network.specs.Refusals.{answer, or-else}
+use Rattle.network.specs.Refusals.{answer, fault-if, or-else}
 use Rattle.netfile.specs.Format.{mark, version, version-place, node-count-place, pipe-count-place, header-size, node-size, pipe-size, pipes-place, file-size, number-of, weight-from, pipe-from, net-of}
 
--- the refusal r at this place where the condition holds, else what comes later in the order of tests
+-- the refusal r at this place of the file where the condition holds, else what comes later in the order of tests
 abbrev pub refuse-at : Bool → Refusal → ℕ → Option Fault → Option Fault
-refuse-at true r place later = Some (file-fault r place)
-refuse-at false r place later = later
+refuse-at b r place later = fault-if b (file-fault r place) later
 
 -- a fault of what a record says, as a fault of the file at the place of the record
 abbrev pub at-place : ℕ → Option Fault → Option Fault

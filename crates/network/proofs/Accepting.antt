@@ -9,28 +9,25 @@ use lib.ListN.{length, length-append}
 use Rattle.std.proofs.shelf.Tests.{leb-false, ltb-false, lt-leb, le-ltb, ne-eqb, eqb-false, or-from, or-parts}
 use Rattle.std.specs.declared.option.Option.{Option}
 use Rattle.std.specs.declared.option.Option.the-variants.{Some, None}
-use Rattle.faults.specs.Faults.{board-fault}
 use Rattle.faults.specs.declared.fault.Fault.{Fault}
-use Rattle.faults.specs.declared.refusal.Refusal.{Refusal}
 use Rattle.network.specs.declared.pipe.Pipe.{Pipe}
 use Rattle.network.specs.Edits.{bad-ends, outside-limits, pipe-fault, weight-fault}
 use Rattle.network.specs.Edits.Edit.{add, weigh, join, remove}
 use Rattle.network.specs.Laws.{Accepted-within-limits}
 use Rattle.network.specs.Limits.{PipeFits, WeightFits, no-pipe}
-use Rattle.network.specs.Refusals.{or-else, refuse-if}
+use Rattle.network.specs.Refusals.{fault-if, or-else}
 use Rattle.network.proofs.Keeps.{add-keeps, join-keeps, pushed-fits, remove-keeps, weigh-keeps, written-fits}
 
 refused : (f : Fault) → Some f ≡ None → ⊥
 refused f e = let z : _≡_ {A = ℕ} 0 1 = cc in omega arith
 
 -- a call goes on just where the condition fails and nothing later refuses it
-passed : (b : Bool) (r : Refusal) (later : Option Fault) → refuse-if b r later ≡ None → (b ≡ false) × (later ≡ None)
-passed true r later e = absurd (refused (board-fault r) e)
-passed false r later e = (refl, e)
+pub passed : (b : Bool) (f : Fault) (later : Option Fault) → fault-if b f later ≡ None → (b ≡ false) × (later ≡ None)
+passed true f later e = absurd (refused f e)
+passed false f later e = (refl, e)
 
-passes : (b : Bool) (r : Refusal) (later : Option Fault) → b ≡ false → later ≡ None → refuse-if b r later ≡ None
-passes true r later e n = let z : _≡_ {A = ℕ} 0 1 = cc in absurd (omega arith)
-passes false r later e n = n
+pub passes : (b : Bool) (f : Fault) (later : Option Fault) → b ≡ false → later ≡ None → fault-if b f later ≡ None
+passes b f later e n = rw e n
 
 within-limits : (low high x : ℕ) → outside-limits low high x ≡ false → (low ≤ x) × (x ≤ high)
 within-limits low high x e = let p = or-parts _ _ e in (ltb-false x low (p .0), ltb-false high x (p .1))

@@ -9,10 +9,14 @@ use Rattle.faults.specs.Faults.{board-fault}
 use Rattle.faults.specs.declared.fault.Fault.{Fault}
 use Rattle.faults.specs.declared.refusal.Refusal.{Refusal}
 
--- the refusal r where the condition holds, else what comes later in the order of tests
+-- the fault f where the condition holds, else what comes later in the order of tests
+abbrev pub fault-if : Bool → Fault → Option Fault → Option Fault
+fault-if true f later = Some f
+fault-if false f later = later
+
+-- the same with the refusal r as a fault of the board
 abbrev pub refuse-if : Bool → Refusal → Option Fault → Option Fault
-refuse-if true r later = Some (board-fault r)
-refuse-if false r later = later
+refuse-if b r later = fault-if b (board-fault r) later
 
 -- what a call answers: the fault that is due, or else x
 abbrev pub answer : {T : Type 0} → Option Fault → T → Result T Fault

@@ -3,6 +3,7 @@ ghost use mathlib.Core.Path.{_≡_};
 ghost use Prim.Native.Nat.{_≤_};
 ghost use lib.ListN.{length};
 ghost use Rattle.std.specs.Vec.{made};
+ghost use Rattle.netfile.specs.Answers.{after-read, after-write, write-answer};
 ghost use Rattle.network.specs.View.{view};
 use faults::fault::Fault;
 use faults::fault::FaultDisplay;
@@ -30,7 +31,9 @@ impl fmt::Display for Hexadecimal<'_> as HexadecimalDisplay {
 }
 
 // Writes the town's file into the buffer and reads it back into the copy, which then is the town's network.
+// Only the writing can be refused.
 fn copy_by_file(town: &Network, file: &mut [u8], copy: &mut Network) -> Result<usize, Fault>
+    ensures answer { λ r. ⌜ r ≡ write-answer (view (now (town .entry))) (length (now (file .entry))) ⌝ }
     ensures same { λ r. ⌜ made r (λ _. view (now (copy .exit)) ≡ view (now (town .entry))) ⌝ }
     ensures fits { λ r. ⌜ made r (λ size. size ≤ length (now (file .exit))) ⌝ }
 {
@@ -40,7 +43,9 @@ fn copy_by_file(town: &Network, file: &mut [u8], copy: &mut Network) -> Result<u
 }
 
 // Reads the bytes into the network, and prints how it went.
-fn try_read(rt: &impl Print, network: &mut Network, file: &[u8], what: &str) -> io::Result<()> {
+fn try_read(rt: &impl Print, network: &mut Network, file: &[u8], what: &str) -> io::Result<()>
+    ensures { λ _. ⌜ view (now (network .exit)) ≡ after-read (now (file .entry)) (view (now (network .entry))) ⌝ }
+{
     match read(file, network) {
         Ok(()) => println!(rt, "read {what}: done"),
         Err(fault) => println!(rt, "read {what}: refused, {fault}"),
@@ -48,7 +53,9 @@ fn try_read(rt: &impl Print, network: &mut Network, file: &[u8], what: &str) -> 
 }
 
 // Writes the network into the buffer, and prints how it went.
-fn try_write(rt: &impl Print, network: &Network, out: &mut [u8]) -> io::Result<()> {
+fn try_write(rt: &impl Print, network: &Network, out: &mut [u8]) -> io::Result<()>
+    ensures { λ _. ⌜ now (out .exit) ≡ after-write (view (now (network .entry))) (now (out .entry)) ⌝ }
+{
     let room = out.len();
     match write(network, out) {
         Ok(size) => println!(rt, "write the town into {room} bytes: {size} bytes"),
