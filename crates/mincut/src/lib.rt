@@ -1,4 +1,6 @@
 // Flow networks, what a minimum cut of one is, and the interface of whatever finds the smallest one.
+#![tactic(auto)]
+
 pub mod agreement;
 pub mod flow;
 pub mod laws;

@@ -1,4 +1,6 @@
 // Reads a network file named on the command line, and prints what it holds or why it is refused.
+#![tactic(auto)]
+
 ghost use Rattle.std.specs.Prelude.{◌≡◌, Ok, Err, MatchResult};
 ghost use Rattle.netfile.specs.Meaning.{meaning};
 ghost use Rattle.network.specs.View.{view};

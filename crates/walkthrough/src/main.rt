@@ -1,4 +1,6 @@
 // Uses the library step by step on a small town, and prints each action with its answer.
+#![tactic(auto)]
+
 ghost use Rattle.std.specs.Prelude.{◌≡◌};
 ghost use Rattle.network.specs.Edits.{after_edit};
 ghost use Rattle.network.specs.Edits.Edit.{add, join, remove, weigh};

@@ -7,11 +7,11 @@ use Rattle.netfile.proofs.reading.add_nodes.Goals as goal
 
 pub unwrap-requires : goal.unwrap-requires
 unwrap-requires c =
-    node_accepted _ _ _ c.weight_from.result c.loop-record-test.true c.requires.few c.requires.tested c.loop-record.invariant (search rules) _ c.add-node.ensures.answer
+    node_accepted _ _ _ c.weight_from.result c.loop-record-test.true c.requires.few c.requires.tested c.loop-record.invariant (search rules) _ c.add_node.ensures.answer
 
 pub loop-record-preserved : goal.loop-record-preserved
 loop-record-preserved c =
-    node_added _ _ _ c.weight_from.result c.loop-record-test.true c.requires.few c.requires.tested c.loop-record.invariant (search rules) _ c.add-node.ensures.after
+    node_added _ _ _ c.weight_from.result c.loop-record-test.true c.requires.few c.requires.tested c.loop-record.invariant (search rules) _ c.add_node.ensures.after
 
 pub returns : goal.returns
 returns c =

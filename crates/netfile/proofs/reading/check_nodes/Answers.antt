@@ -6,7 +6,7 @@ pub loop-v-init : goal.loop-v-init
 loop-v-init c = scanned_none _ _ _ _
 
 pub loop-v-preserved : goal.loop-v-preserved
-loop-v-preserved c = scanned_more _ _ _ _ _ c.loop-v-test.true _ (search rules) c.loop-v.invariant c.in-default.is
+loop-v-preserved c = scanned_more _ _ _ _ _ c.loop-v-test.true _ (search rules) c.loop-v.invariant c.in_default.is
 
 pub returns-in-Err : goal.returns-in-Err
 returns-in-Err c =

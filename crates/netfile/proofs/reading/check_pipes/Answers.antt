@@ -6,7 +6,7 @@ pub loop-p-init : goal.loop-p-init
 loop-p-init c = scanned_none _ _ _ _
 
 pub loop-p-preserved : goal.loop-p-preserved
-loop-p-preserved c = scanned_more _ _ _ _ _ c.loop-p-test.true _ (search rules) c.loop-p.invariant c.in-default.is
+loop-p-preserved c = scanned_more _ _ _ _ _ c.loop-p-test.true _ (search rules) c.loop-p.invariant c.in_default.is
 
 pub returns-in-Err : goal.returns-in-Err
 returns-in-Err c =

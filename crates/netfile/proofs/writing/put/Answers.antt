@@ -6,4 +6,4 @@ pub returns : goal.returns
 returns c =
     let n = length c.args.bytes.now in
     let k : n ≡ c.args.place + n - c.args.place = omega arith in
-    put_mid-paste c.args.place _ c.args.out.now _ _ _ c.copy-from-slice.ensures.after k refl
+    put_mid-paste c.args.place _ c.args.out.now _ _ _ c.copy_from_slice.ensures.after k refl

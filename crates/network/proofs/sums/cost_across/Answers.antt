@@ -9,7 +9,7 @@ pub loop-pipe-preserved : goal.loop-pipe-preserved
 loop-pipe-preserved c =
     let X = set_of c.args.marks.now in
     let p = get_or c.args.pipes.now c.loop-pipe.pipe-index no_pipe in
-    let is : c.added-cost-sum.result ≡ adds X p = c.added-cost-sum.ensures in
+    let is : c.added_cost-sum.result ≡ adds X p = c.added_cost-sum.ensures in
     let few : p.cost ≤ max_cost = (c.requires.fit c.loop-pipe.pipe-index c.loop-pipe-test.true).4 in
     (omega (arith, is, c.loop-pipe.invariant.0, sum_by_more (adds X) c.args.pipes.now c.loop-pipe.pipe-index no_pipe c.loop-pipe-test.true), omega (arith, is, few, c.loop-pipe.invariant.1, adds_le X p))
 

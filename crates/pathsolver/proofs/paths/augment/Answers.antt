@@ -12,8 +12,8 @@ loop-step-init c =
 pub bounds-arcs-k : goal.bounds-arcs-k
 bounds-arcs-k c = (goes_back c.in-Some.k c.loop-step.invariant c.requires.trail.1 c.in-Some.is).there
 
-pub offset-bounds-arcs-k : goal.offset-bounds-arcs-k
-offset-bounds-arcs-k c =
+pub offset_bounds-arcs-k : goal.offset_bounds-arcs-k
+offset_bounds-arcs-k c =
     let h : c.in-Some.k < length c.loop-step.arcs = bounds-arcs-k c in
     search rules
 
@@ -25,14 +25,14 @@ push-requires c =
 pub bounds : goal.bounds
 bounds c = let b = goes_back c.in-Some.k c.loop-step.invariant c.requires.trail.1 c.in-Some.is in visit_under _ _ _ b.at
 
-pub offset-bounds-visits-from : goal.offset-bounds-visits-from
-offset-bounds-visits-from c = let h = bounds c in search rules
+pub offset_bounds-visits-from : goal.offset_bounds-visits-from
+offset_bounds-visits-from c = let h = bounds c in search rules
 
 pub bounds-visits-from : goal.bounds-visits-from
 bounds-visits-from c = let b = goes_back c.in-Some.k c.loop-step.invariant c.requires.trail.1 c.in-Some.is in visit_under _ _ _ b.at
 
 pub unreachable-requires : goal.unreachable-requires
-unreachable-requires c = let b = goes_back c.in-Some.k c.loop-step.invariant c.requires.trail.1 c.in-Some.is in none_some (sym c.in-default-visits.is ∙ b.at)
+unreachable-requires c = let b = goes_back c.in-Some.k c.loop-step.invariant c.requires.trail.1 c.in-Some.is in none_some (sym c.in_default-visits.is ∙ b.at)
 
 pub loop-step-smaller : goal.loop-step-smaller
 loop-step-smaller c =
@@ -52,5 +52,5 @@ returns c =
     record {
       table = c.loop-step.invariant.table;
       alike = c.loop-step.invariant.alike;
-      moved = λ source sink trail is. comes_back c.loop-step.invariant trail c.in-default.is is;
+      moved = λ source sink trail is. comes_back c.loop-step.invariant trail c.in_default.is is;
     }

@@ -73,7 +73,7 @@ pub loop-step-preserved : goal.loop-step-preserved
 loop-step-preserved c =
     closes (subst
     (λ (o : Option ℕ). Inside c.args.arcs.now (length c.args.star.heads.now) c.args.source c.args.sink c.loop-next.visits c.pop.new.self c.loop-next.queue c.in-Some.step o)
-    c.in-default-next.is c.loop-next.invariant)
+    c.in_default-next.is c.loop-next.invariant)
 
 pub returns-then-arc-sink : goal.returns-then-arc-sink
 returns-then-arc-sink c =
@@ -87,5 +87,5 @@ returns-then-arc-sink c =
     let pos = ltb-true 0 _ (sym c.if-is-open.ensures) in
     rw c.onward-found.ensures record { trail = (arrived i to new pos).trail; goal = lands i to new pos c.if-arc-sink.true }
 
-pub returns-in-default : goal.returns-in-default
-returns-in-default c = record { trail = c.loop-step.invariant.paths.trail; goal = ends c.in-default.ensures.next c.loop-step.invariant }
+pub returns-in_default : goal.returns-in_default
+returns-in_default c = record { trail = c.loop-step.invariant.paths.trail; goal = ends c.in_default.ensures.next c.loop-step.invariant }

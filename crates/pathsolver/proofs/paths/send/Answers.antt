@@ -34,8 +34,8 @@ sent c =
     sent_more c.args.arcs.now c.loop-found.arcs c.augment.new.arcs c.search.new.visits c.args.source c.args.sink c.loop-found.sent c.in-Some.found
     c.requires.ends.2 e.trail e.goal c.loop-found.invariant.2 c.augment.ensures.moved
 
-pub overflow-add-sent : goal.overflow-add-sent
-overflow-add-sent c = omega (arith, (sent c).small, most_le c.args.arcs.now c.args.source, c.requires.table.small)
+pub overflow_add-sent : goal.overflow_add-sent
+overflow_add-sent c = omega (arith, (sent c).small, most_le c.args.arcs.now c.args.source, c.requires.table.small)
 
 pub loop-found-smaller : goal.loop-found-smaller
 loop-found-smaller c = omega (arith, (sent c).small, c.in-Some.ensures.goal.some)
@@ -51,5 +51,5 @@ returns c =
       table = c.loop-found.invariant.0;
       alike = c.loop-found.invariant.1;
       identity = identity (length c.args.star.heads.now) c.args.arcs.now c.loop-found.arcs c.args.source c.args.sink c.loop-found.sent c.requires.ends.1 c.loop-found.invariant.2;
-      blocked = c.in-default.ensures.goal;
+      blocked = c.in_default.ensures.goal;
     }

@@ -10,7 +10,7 @@ loop-pipe-init c = (pipes_start (vec_items c.args.arcs.now) c.args.pipes.now, om
 
 pub loop-pipe-preserved : goal.loop-pipe-preserved
 loop-pipe-preserved c =
-    let p = c.add-pair.ensures in
+    let p = c.add_pair.ensures in
     let pipe = get_or c.args.pipes.now c.loop-pipe.pipe-index no_pipe in (
       p.items ∙ ap (λ (l : List Arc). with_pair l pipe.first pipe.second pipe.capacity pipe.capacity) c.loop-pipe.invariant.0 ∙ pipes_next (vec_items c.args.arcs.now) c.args.pipes.now c.loop-pipe.pipe-index,
       omega (arith, p.len),

@@ -5,5 +5,5 @@ use Rattle.residual.proofs.marking.mark_cut.Goals as goal
 
 pub returns : goal.returns
 returns c sent done =
-    reached_is_smallest (flow_of c.args.network) c.args.arcs.now sent _ c.args.marks.now c.mark-reached.new.marks c.requires.accepted (omega arith) done
-    c.mark-reached.ensures.reached c.mark-reached.ensures.marks
+    reached_is_smallest (flow_of c.args.network) c.args.arcs.now sent _ c.args.marks.now c.mark_reached.new.marks c.requires.accepted (omega arith) done
+    c.mark_reached.ensures.reached c.mark_reached.ensures.marks

@@ -24,8 +24,8 @@ popped c =
 pub bounds-star-vertex : goal.bounds-star-vertex
 bounds-star-vertex c = first_under (λ v. v) c.args.arcs.now (popped c) c.loop-vertex.invariant
 
-pub offset-bounds-star-vertex : goal.offset-bounds-star-vertex
-offset-bounds-star-vertex c =
+pub offset_bounds-star-vertex : goal.offset_bounds-star-vertex
+offset_bounds-star-vertex c =
     let h : c.in-Some.vertex < length c.args.star.heads.now = bounds-star-vertex c in
     search rules
 
@@ -72,7 +72,7 @@ loop-next-preserved c =
 pub loop-vertex-preserved : goal.loop-vertex-preserved
 loop-vertex-preserved c =
     turns_back (λ v. v) c.args.arcs.now (subst (λ (o : Option ℕ). Among (λ v. v) c.args.arcs.now (length c.args.star.heads.now) c.args.source (λ v. get_or c.loop-next.seen v false) c.pop.new.self c.loop-next.queue c.in-Some.vertex o)
-    c.in-default-next.is c.loop-next.invariant)
+    c.in_default-next.is c.loop-next.invariant)
 
 pub returns : goal.returns
-returns c = comes_to_end (λ v. v) c.args.arcs.now c.in-default.ensures.next c.loop-vertex.invariant
+returns c = comes_to_end (λ v. v) c.args.arcs.now c.in_default.ensures.next c.loop-vertex.invariant
