@@ -21,13 +21,13 @@ fn single(rt: &impl Abort, heap: Global) -> Result<Network, Fail> {
 fn the_worked_file_loads_and_is_written_back(rt: HostRuntime) -> Result<(), Fail> {
     let mut network = single(&rt, rt.alloc())?;
     assert_eq!(rt; read(&PAIR, &mut network), Ok(()));
-    assert_eq!(rt; network.weights(), &[1, 1]);
+    assert_eq!(rt; network.weights(), [1, 1].as_slice());
     assert_eq!(rt; network.pipes().len(), 1);
     assert_eq!(rt; network.boundary(&[1, 0]), Ok(5));
     let mut out = [9; 18];
     assert_eq!(rt; write(&network, &mut out), Ok(16));
-    assert_eq!(rt; &out[..16], &PAIR);
-    assert_eq!(rt; &out[16..], &[9, 9]);
+    assert_eq!(rt; &out[..16], PAIR.as_slice());
+    assert_eq!(rt; &out[16..], [9, 9].as_slice());
     Ok(())
 }
 
@@ -42,7 +42,7 @@ fn a_cut_file_is_refused_and_the_network_stays(rt: HostRuntime) -> Result<(), Fa
         };
         let fault = Fault::file(refusal, size);
         assert_eq!(rt; read(&PAIR[..size], &mut network), Err(fault));
-        assert_eq!(rt; network.weights(), &[7]);
+        assert_eq!(rt; network.weights(), [7].as_slice());
     }
     Ok(())
 }

@@ -32,7 +32,7 @@ impl<'a, T: Copy> Queue<'a, T> {
         ensures fits { result ≡ nat_lt self.old.tail (room self.old) }
         ensures queued { waiting self.new ≡ (if result then waiting self.old ++ x ∷ [] else waiting self.old) }
         ensures kept { self.new.head ≡ self.old.head }
-        ensures used { self.new.tail ≡ cond result (self.old.tail + 1) self.old.tail }
+        ensures used { self.new.tail ≡ (if result then self.old.tail + 1 else self.old.tail) }
         ensures room { room self.new ≡ room self.old }
     {
         if self.tail >= self.slots.len() {

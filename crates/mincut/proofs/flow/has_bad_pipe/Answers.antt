@@ -4,13 +4,13 @@ use Rattle.mincut.specs.Flow.{some_bad_pipe}
 use Rattle.mincut.proofs.Checking.{bad_found, bad_passed}
 use Rattle.mincut.proofs.flow.has_bad_pipe.Goals as goal
 
-pub returns-then-is-bad : goal.returns-then-is-bad
-returns-then-is-bad c =
-    bad_found c.args.nodes c.args.pipes.now c.loop-pipe.pipe-index c.loop-pipe-test.true c.loop-pipe.invariant c.if-is-bad.ensures
+pub returns-then-is_bad : goal.returns-then-is_bad
+returns-then-is_bad c =
+    bad_found c.args.nodes c.args.pipes.now c.loop-pipe.pipe-index c.loop-pipe-test.true c.loop-pipe.invariant c.if-is_bad.ensures
 
 pub loop-pipe-preserved : goal.loop-pipe-preserved
 loop-pipe-preserved c =
-    bad_passed c.args.nodes c.args.pipes.now c.loop-pipe.pipe-index c.loop-pipe-test.true c.loop-pipe.invariant c.if-is-bad.ensures
+    bad_passed c.args.nodes c.args.pipes.now c.loop-pipe.pipe-index c.loop-pipe-test.true c.loop-pipe.invariant c.if-is_bad.ensures
 
 pub returns : goal.returns
 returns c =

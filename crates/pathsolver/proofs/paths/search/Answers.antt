@@ -8,7 +8,7 @@ use Rattle.pathsolver.specs.Onward.{onward}
 use Rattle.pathsolver.proofs.Seeking.{Inside, arrived, closes, distance_fits, ends, lands, opens, passes, starts, step_under, visits_on}
 use Rattle.pathsolver.proofs.Visiting.{grown}
 use Rattle.pathsolver.proofs.paths.search.Goals as goal
-use Rattle.pathsolver.proofs.paths.search.Goals.{then-is-open+then-is-none+else-arc-sink, else-is-open, else-is-open-via-then-is-open+else-is-none, else-is-open-via-else-is-open}
+use Rattle.pathsolver.proofs.paths.search.Goals.{then-is_open+then-is_none+else-arc-sink, else-is_open, else-is_open-via-then-is_open+else-is_none, else-is_open-via-else-is_open}
 
 pub loop-step-init : goal.loop-step-init
 loop-step-init c =
@@ -31,7 +31,7 @@ onward-found-requires c =
     c.in-Some-next.is c.loop-next.invariant in
     let k = c.in-Some-next.k in
     let there = i.among.frontier.next_is.0 in
-    let h = distance_fits i (c.requires.table.to k there) c.if-is-none.ensures in
+    let h = distance_fits i (c.requires.table.to k there) c.if-is_none.ensures in
     search rules
 
 pub loop-next-smaller : goal.loop-next-smaller
@@ -52,20 +52,20 @@ loop-next-preserved c =
     let there = i.among.frontier.next_is.0 in
     let e = c.requires.indexed.next k there in
     let to = c.requires.table.to k there in
-    elim c.if-is-open.branch [
-      | then-is-open+then-is-none+else-arc-sink w ↦
-          let p = w.push-then-is-none.ensures in
-          let new = w.if-is-none.ensures in
+    elim c.if-is_open.branch [
+      | then-is_open+then-is_none+else-arc-sink w ↦
+          let p = w.push-then-is_none.ensures in
+          let new = w.if-is_none.ensures in
           let s : Step = record { vertex = (arc_at c.args.arcs.now k).to; via = Some k; distance = c.in-Some.step.distance + 1; room = w.min.result } in
-          let on = visits_on i to new s w.if-is-open.true refl refl refl w.min.ensures (λ e. w.if-arc-sink.false (sym e))
+          let on = visits_on i to new s w.if-is_open.true refl refl refl w.min.ensures (λ e. w.if-arc-sink.false (sym e))
           record { sound = p.sound; fits = p.fits; queued = p.queued; kept = p.kept; used = p.used; room = p.room } in
           simp (w.visits-is, w.queue-is, w.onward-found.ensures) (passes _ e (λ _. grown_here (grown c.loop-next.visits (arc_at c.args.arcs.now k).to s (omega (arith, to, i.long)) new)) on)
-      | else-is-open w ↦
+      | else-is_open w ↦
           simp (w.visits-is, w.queue-is)
           (passes _ e
-          (elim w.else-is-open.branch [
-            | else-is-open-via-then-is-open+else-is-none v ↦ λ _. v.if-is-none.ensures
-            | else-is-open-via-else-is-open v ↦ λ h. absurd (omega (arith, ltb-false 0 _ (sym v.if-is-open.ensures)))
+          (elim w.else-is_open.branch [
+            | else-is_open-via-then-is_open+else-is_none v ↦ λ _. v.if-is_none.ensures
+            | else-is_open-via-else-is_open v ↦ λ h. absurd (omega (arith, ltb-false 0 _ (sym v.if-is_open.ensures)))
           ]) i)
     ]
 
@@ -83,8 +83,8 @@ returns-then-arc-sink c =
     let k = c.in-Some-next.k in
     let there = i.among.frontier.next_is.0 in
     let to = c.requires.table.to k there in
-    let new = c.if-is-none.ensures in
-    let pos = ltb-true 0 _ (sym c.if-is-open.ensures) in
+    let new = c.if-is_none.ensures in
+    let pos = ltb-true 0 _ (sym c.if-is_open.ensures) in
     rw c.onward-found.ensures record { trail = (arrived i to new pos).trail; goal = lands i to new pos c.if-arc-sink.true }
 
 pub returns-in_default : goal.returns-in_default

@@ -4,7 +4,7 @@ use Rattle.residual.specs.Arcs.{arc_at}
 use Rattle.residual.proofs.Frontier.{Next, ahead, ahead_le, grown_here, grown_set}
 use Rattle.residual.proofs.Searching.{Among, Popped, comes_to_end, filled, first_under, goes_on, goes_past, sets_out, turns_back, turns_to}
 use Rattle.residual.proofs.marking.reach.Goals as goal
-use Rattle.residual.proofs.marking.reach.Goals.{then-is-open+then-not-seen-arc, else-is-open, else-is-open-via-then-is-open+else-not-seen-arc, else-is-open-via-else-is-open}
+use Rattle.residual.proofs.marking.reach.Goals.{then-is_open+then-not-seen-arc, else-is_open, else-is_open-via-then-is_open+else-not-seen-arc, else-is_open-via-else-is_open}
 
 pub loop-vertex-init : goal.loop-vertex-init
 loop-vertex-init c =
@@ -51,21 +51,21 @@ loop-next-preserved c =
     c.in-Some-next.is c.loop-next.invariant in
     let e = c.requires.indexed.next k a.frontier.next_is.0 in
     let to = c.requires.table.to k a.frontier.next_is.0 in
-    elim c.if-is-open.branch [
-      | then-is-open+then-not-seen-arc w ↦
+    elim c.if-is_open.branch [
+      | then-is_open+then-not-seen-arc w ↦
           let p = w.push-then-not-seen-arc.ensures in
           let g = grown_set (λ b. b) c.loop-next.seen (arc_at arcs k).to true false
           (omega (arith, to, c.requires.long, c.fill.ensures.len, length-set c.fill.new.self c.args.source true)) refl in
           simp (w.seen-is, w.queue-is)
           (goes_past (λ v. v) arcs _ e (λ _. grown_here g)
-          (goes_on (λ v. v) arcs g w.if-not-seen-arc.true to (ltb-true 0 _ (sym w.if-is-open.ensures)) refl
+          (goes_on (λ v. v) arcs g w.if-not-seen-arc.true to (ltb-true 0 _ (sym w.if-is_open.ensures)) refl
           record { sound = p.sound; fits = p.fits; queued = p.queued; kept = p.kept; used = p.used; room = p.room } a))
-      | else-is-open w ↦
+      | else-is_open w ↦
           simp (w.seen-is, w.queue-is)
           (goes_past (λ v. v) arcs _ e
-          (elim w.else-is-open.branch [
-            | else-is-open-via-then-is-open+else-not-seen-arc v ↦ λ _. v.if-not-seen-arc.false
-            | else-is-open-via-else-is-open v ↦ λ h. absurd (omega (arith, ltb-false 0 _ (sym v.if-is-open.ensures)))
+          (elim w.else-is_open.branch [
+            | else-is_open-via-then-is_open+else-not-seen-arc v ↦ λ _. v.if-not-seen-arc.false
+            | else-is_open-via-else-is_open v ↦ λ h. absurd (omega (arith, ltb-false 0 _ (sym v.if-is_open.ensures)))
           ]) a)
     ]
 
