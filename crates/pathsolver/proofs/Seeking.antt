@@ -1,6 +1,6 @@
 -- The search for a path: what holds between two steps, and among the arcs of one.
 -- Assumes nothing.
-use Rattle.std.proofs.Common.{◌≡◌, ℕ, ◌+◌, ◌<◌, ◌≤◌, min, Bool, true, false, ◌≢◌, List, [], ◌∷◌, ◌++◌, length, set, is_some, Some, None, Option, sym, ap, ◌∙◌, subst, arith, length-set}
+use Rattle.std.proofs.Common.{◌≡◌, ℕ, ◌+◌, ◌<◌, ◌≤◌, min, Bool, true, false, ◌≢◌, List, [], ◌∷◌, ◌++◌, length, set, is_some, Some, None, Option, sym, refl, ap, ◌∙◌, subst, arith, length-set}
 use Rattle.std.proofs.ByRecursion.{All-push, All-weaker}
 use Rattle.std.specs.List.{AllByRecursion as All}
 use Rattle.residual.specs.declared.arcs.Arc.{Arc}
@@ -93,12 +93,13 @@ module _ {arcs : List Arc} {n source sink : ℕ} where
           pub visits_on : {q' : Queue Step} {r : Bool} → sink ≢ (arc_at arcs k).to → Queued q q' s r → Inside arcs n source sink (set visits (arc_at arcs k).to (Some s)) q₀ q' step (Some k)
           visits_on {q'} ne p =
               let v : ℕ = (arc_at arcs k).to in
+              let is : s.vertex ≡ v = refl in
               let lv : v < length visits = omega (arith, i.long) in
               let g = grown visits v s lv new in
               let w = fitted p (slot_left vertex arcs g new to i.among) in
               let old : Recorded (set visits v (Some s)) (waiting q) = All-weaker _ _ (λ t e. at_still visits v s lv new t.vertex t e) (waiting q) i.recorded in
               record {
-                among = goes_on vertex arcs g new to pos refl p i.among;
+                among = goes_on vertex arcs g new to pos is p i.among;
                 paths = arrived;
                 recorded = subst (Recorded (set visits v (Some s))) (sym w.list) (All-push _ (waiting q) s old (at_here visits v s lv new));
                 here = at_still visits v s lv new step.vertex step i.here;

@@ -9,8 +9,6 @@ use Rattle.residual.specs.Arcs.{Moved, Vertices, leaves, residual, total}
 use Rattle.residual.specs.Identity.{Identity, gained, nothing}
 use Rattle.residual.proofs.Amounts.{when_le, when_plus}
 use Rattle.residual.proofs.Balance.{identity_kept}
-use Rattle.pathsolver.specs.declared.step.Step.{Step}
-use Rattle.pathsolver.specs.Steps.{Found, Trail, Visits}
 
 -- the most that can leave the source: the residual capacity of the source alone
 pub most : List Arc → ℕ → ℕ
@@ -35,17 +33,15 @@ sent_le old new source sink s ne p =
 moved_more : (a b c : List Arc) (u v s t : ℕ) → Moved a b u v s → Moved b c u v t → Moved a c u v (s + t)
 moved_more a b c u v s t p q X = omega (arith, p X, q X, when_plus (X u) s t, when_plus (X v) s t)
 
--- one path more: s is the step that found the sink
+-- what has been sent after one path more
 pub record Sent (old new : List Arc) (source sink sent : ℕ) : Type 0 where
   pub moved : Moved old new source sink sent
   pub small : sent ≤ most old source
 
-pub sent_more : (old arcs new : List Arc) (visits : Visits) (source sink sent : ℕ) (s : Step) → sink ≢ source → Trail arcs visits source → Found visits sink s → Moved old arcs source sink sent
-    → ((u : ℕ) → Trail arcs visits u → Moved arcs new u s.vertex s.room) → Sent old new source sink (sent + s.room)
-sent_more old arcs new visits source sink sent s ne trail found before path =
-    let v : s.vertex ≡ sink = trail.vertex sink s found.at in
-    let more = moved_more old arcs new source sink sent s.room before (subst (λ (w : ℕ). Moved arcs new source w s.room) v (path source trail)) in
-    record { moved = more; small = sent_le old new source sink (sent + s.room) ne more }
+pub sent_more : (old arcs new : List Arc) (source sink sent room : ℕ) → sink ≢ source → Moved old arcs source sink sent → Moved arcs new source sink room → Sent old new source sink (sent + room)
+sent_more old arcs new source sink sent room ne before path =
+    let more = moved_more old arcs new source sink sent room before path in
+    record { moved = more; small = sent_le old new source sink (sent + room) ne more }
 
 -- the identity, with all that was sent held at the sink
 pub identity : (n : ℕ) (old new : List Arc) (source sink sent : ℕ) → sink < n → Moved old new source sink sent → Identity n source old new sent (gained nothing sink sent)

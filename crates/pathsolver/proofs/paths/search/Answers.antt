@@ -56,9 +56,10 @@ loop-next-preserved c =
       | then-is_open+then-is_none+else-arc-sink w ↦
           let p = w.push-then-is_none.ensures in
           let new = w.if-is_none.ensures in
-          let s : Step = record { vertex = (arc_at c.args.arcs.now k).to; via = Some k; distance = c.in-Some.step.distance + 1; room = w.min.result } in
-          let on = visits_on i to new s w.if-is_open.true refl refl refl w.min.ensures (λ e. w.if-arc-sink.false (sym e))
-          record { sound = p.sound; fits = p.fits; queued = p.queued; kept = p.kept; used = p.used; room = p.room } in
+          let pos = ltb-true 0 _ (sym w.if-is_open.ensures) in
+          let on = visits_on i to new pos (λ e. w.if-arc-sink.false (sym e))
+          record { sound = p.sound; fits = p.fits; queued = rw w.onward-found.ensures at p.queued; kept = p.kept; used = p.used; room = p.room } in
+          let s : Step = onward c.in-Some.step k (arc_at c.args.arcs.now k) in
           simp (w.visits-is, w.queue-is, w.onward-found.ensures) (passes _ e (λ _. grown_here (grown c.loop-next.visits (arc_at c.args.arcs.now k).to s (omega (arith, to, i.long)) new)) on)
       | else-is_open w ↦
           simp (w.visits-is, w.queue-is)

@@ -1,55 +1,46 @@
-use Rattle.std.proofs.Common.{◌≡◌, ◌+◌, length, sym, ap, ◌∙◌, subst, arith}
-use Rattle.residual.specs.Arcs.{Table}
+use Rattle.std.proofs.Common.{◌≡◌, ◌+◌, List, length, sym, subst, arith}
+use Rattle.residual.specs.declared.arcs.Arc.{Arc}
+use Rattle.residual.specs.Arcs.{Alike, Moved, Table}
 use Rattle.residual.proofs.Indexing.{indexed_alike}
 use Rattle.residual.proofs.Pushing.{alike_more}
-use Rattle.pathsolver.specs.Steps.{visit_at}
 use Rattle.pathsolver.proofs.Sending.{Sent, identity, most_le, sent_more}
 use Rattle.pathsolver.proofs.paths.send.Goals as goal
 
-pub search-requires : goal.search-requires
-search-requires c =
+pub advance-requires : goal.advance-requires
+advance-requires c =
     record {
-      table = c.loop-found.invariant.0;
-      indexed = indexed_alike c.args.arcs.now c.loop-found.arcs c.args.star.heads.now c.args.star.nexts.now c.loop-found.invariant.1 c.requires.indexed;
+      table = c.loop-room.invariant.0;
+      indexed = indexed_alike c.args.arcs.now c.loop-room.arcs c.args.star.heads.now c.args.star.nexts.now c.loop-room.invariant.1 c.requires.indexed;
       ends = (c.requires.ends.0, c.requires.ends.2);
       long = omega arith;
       slots = omega arith;
     }
 
-pub augment-requires : goal.augment-requires
-augment-requires c =
-    let e = c.in-Some.ensures in
-    let n : length c.search.new.visits ≡ length c.args.star.heads.now = omega arith in
-    let v : c.in-Some.found.vertex ≡ c.args.sink = e.trail.vertex c.args.sink c.in-Some.found e.goal.at in
-    record {
-      table = subst (Table c.loop-found.arcs) (sym n) c.loop-found.invariant.0;
-      trail = (c.args.source, e.trail);
-      found = ap (visit_at c.search.new.visits) v ∙ e.goal.at;
-    }
-
 -- what has been sent after this turn
-sent : (c : goal.After-struct-known·1) → Sent c.args.arcs.now c.augment.new.arcs c.args.source c.args.sink (c.loop-found.sent + c.in-Some.found.room)
+sent : (c : goal.In-Some) → Sent c.args.arcs.now c.advance.new.arcs c.args.source c.args.sink (c.loop-room.sent + c.in-Some.room)
 sent c =
-    let e = c.in-Some.ensures in
-    sent_more c.args.arcs.now c.loop-found.arcs c.augment.new.arcs c.search.new.visits c.args.source c.args.sink c.loop-found.sent c.in-Some.found
-    c.requires.ends.2 e.trail e.goal c.loop-found.invariant.2 c.augment.ensures.moved
+    sent_more c.args.arcs.now c.loop-room.arcs c.advance.new.arcs c.args.source c.args.sink c.loop-room.sent c.in-Some.room
+    c.requires.ends.2 c.loop-room.invariant.2 c.in-Some.ensures.goal.moved
 
 pub overflow_add-sent : goal.overflow_add-sent
 overflow_add-sent c = omega (arith, (sent c).small, most_le c.args.arcs.now c.args.source, c.requires.table.small)
 
-pub loop-found-smaller : goal.loop-found-smaller
-loop-found-smaller c = omega (arith, (sent c).small, c.in-Some.ensures.goal.some)
+pub loop-room-smaller : goal.loop-room-smaller
+loop-room-smaller c = omega (arith, (sent c).small, c.in-Some.ensures.goal.some)
 
-pub loop-found-preserved : goal.loop-found-preserved
-loop-found-preserved c =
-    let n : length c.search.new.visits ≡ length c.args.star.heads.now = omega arith in
-    (subst (Table c.augment.new.arcs) n c.augment.ensures.table, alike_more c.loop-found.invariant.1 c.augment.ensures.alike, (sent c).moved)
+pub loop-room-preserved : goal.loop-room-preserved
+loop-room-preserved c =
+    (c.in-Some.ensures.goal.table, alike_more c.loop-room.invariant.1 c.in-Some.ensures.goal.alike, (sent c).moved)
 
 pub returns : goal.returns
 returns c =
+    let n = length c.args.star.heads.now in
+    let old = c.args.arcs.now in
+    let same : c.advance.new.arcs ≡ c.loop-room.arcs = c.in_default.ensures.goal.0 in
+    let kept = subst (λ (l : List Arc). Table l n × Alike old l × Moved old l c.args.source c.args.sink c.loop-room.sent) (sym same) c.loop-room.invariant in
     record {
-      table = c.loop-found.invariant.0;
-      alike = c.loop-found.invariant.1;
-      identity = identity (length c.args.star.heads.now) c.args.arcs.now c.loop-found.arcs c.args.source c.args.sink c.loop-found.sent c.requires.ends.1 c.loop-found.invariant.2;
-      blocked = c.in_default.ensures.goal;
+      table = kept.0;
+      alike = kept.1;
+      identity = identity n old c.advance.new.arcs c.args.source c.args.sink c.loop-room.sent c.requires.ends.1 kept.2;
+      blocked = c.in_default.ensures.goal.1;
     }
