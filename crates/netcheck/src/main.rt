@@ -10,6 +10,7 @@ use faults::fault::Fault;
 use netfile::file::read;
 use network::network::Network;
 use network::pipe::Pipe;
+use std::process::ExitCode;
 use std::{env, fs, io};
 
 // The network that the file means, in place of the one given, or the fault for which it is refused.
@@ -60,19 +61,27 @@ fn report(rt: &HostRuntime, path: &str) -> anyhow::Result<()> {
     result
 }
 
-fn main(rt: HostRuntime) -> anyhow::Result<()> {
-    let mut args = env::args(&rt)?;
+fn run(rt: &HostRuntime) -> anyhow::Result<()> {
+    let mut args = env::args(rt)?;
     let named = args.nth(1);
     let more = args.next();
     match named {
         Some(word) if word.as_str() == "--help" || word.as_str() == "-h" => {
-            help(&rt)?;
+            help(rt)?;
             Ok(())
         }
-        Some(path) if more.is_none() => report(&rt, path.as_str()),
+        Some(path) if more.is_none() => report(rt, path.as_str()),
         _ => {
             eprintln!(rt; "netcheck: name one file; netcheck --help says more")?;
             Err(anyhow!("name one file"))
         }
+    }
+}
+
+// What is wrong with the call or the file was printed before, so the error is not printed again.
+fn main(rt: HostRuntime) -> ExitCode {
+    match run(&rt) {
+        Ok(()) => ExitCode::SUCCESS,
+        Err(_) => ExitCode::FAILURE,
     }
 }

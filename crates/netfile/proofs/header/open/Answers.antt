@@ -1,4 +1,4 @@
-use Rattle.std.proofs.Common.{◌≡◌, ◌-◌, ◌*◌, ◌<◌, take, drop, None, sym, ◌∙◌, arith, rules}
+use Rattle.std.proofs.Common.{◌≡◌, ◌*◌, ◌<◌, take, drop, None, sym, ◌∙◌, arith, rules}
 use Rattle.std.proofs.ByRecursion.{All-from_get_or}
 use Rattle.std.proofs.lemmas.List.{drop-drop, take_rest}
 use Rattle.netfile.specs.Format.{header_size, node_size, pipe_size, pipes_place}

@@ -1,8 +1,8 @@
-use Rattle.std.proofs.Common.{ℕ, ◌+◌, length, Some, None, Option, sym, refl, ap, subst, arith, rules}
+use Rattle.std.proofs.Common.{ℕ, length, None, Option, sym, refl, ap, subst, arith, rules}
 use Rattle.std.proofs.lemmas.Bool.{ltb-false, ltb-true}
 use Rattle.residual.specs.Arcs.{arc_at}
 use Rattle.residual.proofs.Frontier.{ahead, ahead_le, grown_here}
-use Rattle.residual.proofs.Searching.{Popped, Queued, filled}
+use Rattle.residual.proofs.Searching.{Popped, filled}
 use Rattle.pathsolver.specs.declared.step.Step.{Step}
 use Rattle.pathsolver.specs.Onward.{onward}
 use Rattle.pathsolver.proofs.Seeking.{Inside, arrived, closes, distance_fits, ends, lands, opens, passes, starts, step_under, visits_on}
