@@ -5,7 +5,7 @@ use lib.ListN.{length-map}
 use Rattle.std.proofs.lemmas.Nat.{div-mul-add, mod-mul-add}
 use Rattle.std.proofs.ByRecursion.{All-drop, All-get_or, All-map, All-weaker}
 use Rattle.std.proofs.lemmas.List.{drop-drop, drop_more, take_all, take-append-drop}
-use Rattle.std.specs.List.{flat_map, AllByRecursion as All}
+use Rattle.std.specs.List.{flat_map, AllByRecursion}
 use Rattle.network.proofs.Accepting.{both_passed, pipe_fits, weight_fits}
 use Rattle.network.specs.Limits.{PipeFits, WeightFits, WithinLimits, no_pipe}
 use Rattle.network.specs.Net.{count}
@@ -42,10 +42,10 @@ module _ (file : List ℕ) where
   limits f =
       let n = count_is in
       let m = pipes_are in
-      let ws : All WeightFits (network_in file).weights =
+      let ws : AllByRecursion WeightFits (network_in file).weights =
       All-map WeightFits weight_from (node_records file)
       (All-weaker _ _ (λ r e. weight_fits (weight_from r) e) (node_records file) (each_faultless _ node_size header_size (node_records file) f.nodes)) in
-      let ps : All (PipeFits (node_count file)) (network_in file).pipes =
+      let ps : AllByRecursion (PipeFits (node_count file)) (network_in file).pipes =
       All-map (PipeFits (node_count file)) pipe_from (pipe_records file)
       (All-weaker _ _ (λ r e. pipe_fits (node_count file) (pipe_from r) e) (pipe_records file) (each_faultless _ pipe_size (pipes_place (node_count file)) (pipe_records file) f.pipes)) in (
         omega (arith, f.leading.nodes),

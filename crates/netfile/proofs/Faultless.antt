@@ -1,7 +1,7 @@
 -- What the first fault of some records says of each: that none has a fault, or which is the first that has one.
 -- Assumes nothing.
 use Rattle.std.proofs.Common.{◌≡◌, ℕ, zero, suc, ◌+◌, ◌*◌, ◌<◌, List, [], ◌∷◌, length, get_or, Some, None, Option, sym, refl, ap, ◌∙◌, arith}
-use Rattle.std.specs.List.{AllByRecursion as All}
+use Rattle.std.specs.List.{AllByRecursion}
 use Rattle.faults.specs.Faults.{file_fault}
 use Rattle.faults.specs.declared.fault.Fault.{Fault}
 use Rattle.network.proofs.Accepting.{both_passed}
@@ -14,14 +14,14 @@ unplaced place (Some f) e = let z : ◌≡◌ {A = ℕ} 0 1 = cc in absurd (omeg
 unplaced place None e = refl
 
 module _ (fault : List ℕ → Option Fault) (size : ℕ) where
-  pub each_faultless : (place : ℕ) (records : List (List ℕ)) → first_fault fault size place records ≡ None → All (λ r. fault r ≡ None) records
+  pub each_faultless : (place : ℕ) (records : List (List ℕ)) → first_fault fault size place records ≡ None → AllByRecursion (λ r. fault r ≡ None) records
   unfolding first_fault
   each_faultless place [] e = tt
   each_faultless place (r ∷ rs) e =
       let (f, g) = both_passed _ _ e in
       (unplaced place (fault r) f, each_faultless (place + size) rs g)
 
-  pub all_faultless : (place : ℕ) (records : List (List ℕ)) → All (λ r. fault r ≡ None) records → first_fault fault size place records ≡ None
+  pub all_faultless : (place : ℕ) (records : List (List ℕ)) → AllByRecursion (λ r. fault r ≡ None) records → first_fault fault size place records ≡ None
   unfolding first_fault
   all_faultless place [] h = refl
   all_faultless place (r ∷ rs) h = rw h.0 (all_faultless (place + size) rs h.1)

@@ -4,7 +4,7 @@ use Rattle.std.proofs.Common.{◌≡◌, ℕ, ◌<◌, List, [], ◌∷◌, map,
 use Rattle.std.proofs.lemmas.Nat.{div-add-mod', div_below, mod_below}
 use Rattle.std.proofs.ByRecursion.{All-append, All-from_get_or, All-map}
 use Rattle.std.proofs.lemmas.List.{append-nil}
-use Rattle.std.specs.List.{flat_map, AllByRecursion as All}
+use Rattle.std.specs.List.{flat_map, AllByRecursion}
 use Rattle.network.proofs.Accepting.{pipe_faultless, weight_faultless}
 use Rattle.network.specs.declared.pipe.Pipe.{Pipe}
 use Rattle.network.specs.Edits.{pipe_fault, weight_fault}
@@ -89,7 +89,7 @@ written_loads_as_itself net h = loads net h
 bytes_are : (x : ℕ) → x < 65536 → Bytes (bytes_of x)
 bytes_are x l = (div_below x 256 256 (omega arith) (omega arith), (mod_below x 256 (omega arith), tt))
 
-joined_bytes : {X : Type 0} (f : X → List ℕ) (xs : List X) → All (λ x. Bytes (f x)) xs → Bytes (flat_map f xs)
+joined_bytes : {X : Type 0} (f : X → List ℕ) (xs : List X) → AllByRecursion (λ x. Bytes (f x)) xs → Bytes (flat_map f xs)
 joined_bytes f [] h = tt
 joined_bytes f (x ∷ xs) h = All-append _ (f x) (flat_map f xs) h.0 (joined_bytes f xs h.1)
 

@@ -3,7 +3,7 @@
 use Rattle.std.proofs.Common.{◌≡◌, ℕ, suc, ◌+◌, ◌<◌, ◌≤◌, List, [], ◌∷◌, ◌++◌, length, get_or, take, drop, set, subst, arith, length-append, length-drop, length-set, length-take, get_or-set_same}
 use lib.Seq.{get_or-append_seam}
 use Rattle.std.proofs.ByRecursion.{All-get_or, All-from_get_or, All-push, All-set, All-append, All-take, All-drop}
-use Rattle.std.specs.List.{remove, AllByRecursion as All}
+use Rattle.std.specs.List.{remove, AllByRecursion}
 use Rattle.network.specs.declared.pipe.Pipe.{Pipe}
 use Rattle.network.specs.Limits.{no_pipe, max_nodes, max_pipes, WeightFits, PipeFits, PipesFit, Limits}
 
@@ -12,10 +12,10 @@ module _ {X : Type 0} (P : X → Type 0) (d : X) where
   abbrev pub EachFits : List X → Type 0
   EachFits xs = (k : ℕ) → k < length xs → P (get_or xs k d)
 
-  all_fit : (xs : List X) → EachFits xs → All P xs
+  all_fit : (xs : List X) → EachFits xs → AllByRecursion P xs
   all_fit xs h = All-from_get_or P xs d h
 
-  each_fits : (xs : List X) → All P xs → EachFits xs
+  each_fits : (xs : List X) → AllByRecursion P xs → EachFits xs
   each_fits xs h k l = All-get_or P xs k d l h
 
   pub fits_push : (xs : List X) (x : X) → EachFits xs → P x → EachFits (xs ++ x ∷ [])

@@ -2,7 +2,7 @@
 -- Assumes nothing.
 use Rattle.std.proofs.Common.{◌≡◌, ℕ, ◌+◌, ◌<◌, ◌≤◌, Bool, true, false, ◌≢◌, List, [], ◌∷◌, ◌++◌, length, set, is_some, Some, None, Option, sym, refl, ap, ◌∙◌, subst, arith, length-set}
 use Rattle.std.proofs.ByRecursion.{All-push, All-weaker}
-use Rattle.std.specs.List.{AllByRecursion as All}
+use Rattle.std.specs.List.{AllByRecursion}
 use Rattle.residual.specs.declared.arcs.Arc.{Arc}
 use Rattle.residual.specs.declared.queue.Queue.{Queue}
 use Rattle.residual.specs.Arcs.{arc_at}
@@ -21,7 +21,7 @@ vertex s = s.vertex
 
 -- each step that waits is the one of its vertex
 abbrev Recorded : Visits → List Step → Type 0
-Recorded visits q = All (λ s. visit_at visits s.vertex ≡ Some s) q
+Recorded visits q = AllByRecursion (λ s. visit_at visits s.vertex ≡ Some s) q
 
 -- between two steps
 pub record Outside (arcs : List Arc) (n source sink : ℕ) (visits : Visits) (q : Queue Step) : Type 0 where

@@ -3,7 +3,7 @@
 use Rattle.std.proofs.Common.{◌≡◌, ℕ, zero, suc, ◌+◌, ◌<◌, ◌≤◌, Bool, true, false, cond, eqb, ◌≢◌, ◌⊎◌, List, [], ◌∷◌, ◌++◌, length, get_or, set, Some, None, Option, sym, refl, ap, ◌∙◌, subst, inl, inr, ⊎_elim, arith, get_or-set_other, get_or-set_same}
 use Rattle.std.proofs.ByRecursion.{All-push, All-weaker, has_append_left, has_push}
 use Rattle.std.proofs.lemmas.Bool.{cases_eq, cases_lt, cond-false, cond-true, eq-eqb, ne_eqb, true≢false}
-use Rattle.std.specs.List.{ContainsAt as Has, AllByRecursion as All}
+use Rattle.std.specs.List.{ContainsAt as Has, AllByRecursion}
 use Rattle.network.specs.Net.{below, when}
 use Rattle.residual.specs.declared.arcs.Arc.{Arc}
 use Rattle.residual.specs.Arcs.{Vertices, arc_at}
@@ -96,7 +96,7 @@ module _ (arcs : List Arc) where
   -- what a search keeps: which vertices are reached, which of them wait, and how many are reached
   pub record Base (n source : ℕ) (R : Vertices) (q : List ℕ) (used : ℕ) : Type 0 where
     pub start : R source ≡ true
-    pub waits : All (λ w. R w ≡ true) q
+    pub waits : AllByRecursion (λ w. R w ≡ true) q
     pub least : (X : Vertices) → X source ≡ true → Closed arcs X → (w : ℕ) → R w ≡ true → X w ≡ true
     pub under : (w : ℕ) → R w ≡ true → w < n
     pub used-is : used ≡ count n R
