@@ -40,8 +40,8 @@ fn add_sources(arcs: &mut Vec<Arc>, nodes: usize, capacities: &[u64])
 
 // Appends the arcs from each node to the sink.
 fn add_sinks(arcs: &mut Vec<Arc>, nodes: usize, capacities: &[u64])
-    requires capacities_len_bound { vec_len arcs.old + 2 * length capacities.now ≤ vec_capacity arcs.old }
-    requires nodes_le_max_nodes { nodes ≤ max_nodes }
+    requires room { vec_len arcs.old + 2 * length capacities.now ≤ vec_capacity arcs.old }
+    requires few { nodes ≤ max_nodes }
     ensures items { arcs.new.items ≡ with_sinks arcs.old.items nodes capacities.now (length capacities.now) }
     ensures len { vec_len arcs.new ≡ vec_len arcs.old + 2 * length capacities.now }
     ensures capacity { vec_capacity arcs.new ≡ vec_capacity arcs.old }
