@@ -1,6 +1,6 @@
 -- The table of arcs, what leaves a set of vertices, and a push along an arc.
 -- Assumes nothing.
-use Rattle.std.specs.Prelude.{◌≡◌, ℕ, ◌+◌, ◌-◌, ◌%◌, ◌^◌, ◌<◌, Bool, cond, not, ◌&&◌, List, length, set, sum_by, ◌==◌, slice_index_or, slice_set}
+use Rattle.std.specs.Prelude.{◌≡◌, ℕ, ◌+◌, ◌-◌, ◌%◌, ◌^◌, ◌<◌, Bool, cond, not, ◌&&◌, List, length, sum_by, ◌==◌, slice_index_or, slice_set}
 use Rattle.network.specs.Net.{when}
 use Rattle.residual.specs.declared.arcs.Arc.{Arc}
 
@@ -26,7 +26,7 @@ holding a n = record { from = a.from; to = a.to; remaining = n }
 -- the table after d was sent along arc i: it can take d less, and its reverse d more
 abbrev pub pushed : List Arc → ℕ → ℕ → List Arc
 pushed arcs i d =
-    set (slice_set arcs i (holding (arc_at arcs i) ((arc_at arcs i).remaining - d)))
+    slice_set (slice_set arcs i (holding (arc_at arcs i) ((arc_at arcs i).remaining - d)))
     (reverse i) (holding (arc_at arcs (reverse i)) ((arc_at arcs (reverse i)).remaining + d))
 
 -- what the arc adds to the residual capacity of X: its own where it leaves X
