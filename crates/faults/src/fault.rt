@@ -1,5 +1,5 @@
 ghost use Rattle.std.specs.Prelude.{◌≡◌, Some};
-ghost use Rattle.faults.specs.Faults.{board_fault, file_fault, solver_fault};
+ghost use Rattle.faults.specs.Faults.{fault_at};
 ghost use Rattle.faults.specs.Numbers.{number};
 ghost use Rattle.faults.specs.Words.{fault_text};
 
@@ -18,37 +18,22 @@ pub struct Fault {
 }
 
 impl Fault {
-    // A fault of the board's layer with no place of its own.
-    pub fn board(refusal: Refusal) -> Fault
-        ensures { result ≡ board_fault refusal }
+    // A fault that this layer reports, with no place of its own.
+    pub fn of(layer: Layer, refusal: Refusal) -> Fault
+        ensures { result ≡ fault_at refusal layer 0 }
     {
         Fault {
             refusal,
-            layer: Layer::Board,
+            layer,
             place: 0,
         }
     }
 
-    // A fault of the file layer at this place of the file.
-    pub fn file(refusal: Refusal, place: usize) -> Fault
-        ensures { result ≡ file_fault refusal place }
+    // The same fault at this place.
+    pub fn at(self, place: usize) -> Fault
+        ensures { result ≡ fault_at self.refusal self.layer place }
     {
-        Fault {
-            refusal,
-            layer: Layer::File,
-            place,
-        }
-    }
-
-    // A fault of a solver, with no place of its own.
-    pub fn solver(refusal: Refusal) -> Fault
-        ensures { result ≡ solver_fault refusal }
-    {
-        Fault {
-            refusal,
-            layer: Layer::Solver,
-            place: 0,
-        }
+        Fault { place, ..self }
     }
 
     // The number of the refusal.
@@ -63,13 +48,13 @@ impl fmt::Display for Fault {
     ghost output = { λ fault. Some (fault_text fault) };
 
     fn fmt<W: fmt::Write>(&self, f: &mut fmt::Formatter<W>) -> fmt::Result {
-        let wording = self.refusal.wording();
-        let number = self.number();
-        let layer = self.layer.name();
-        let place = self.place;
         write!(
             f,
-            "{wording} (refusal {number}, layer {layer}, place {place})"
+            "{} (refusal {}, layer {}, place {})",
+            self.refusal,
+            self.number(),
+            self.layer,
+            self.place
         )
     }
 }

@@ -1,5 +1,7 @@
-ghost use Rattle.std.specs.Prelude.{◌≡◌};
+ghost use Rattle.std.specs.Prelude.{◌≡◌, Some};
 ghost use Rattle.faults.specs.Words.{layer_name};
+
+use std::fmt;
 
 // The part of the library whose call refuses.
 #[derive(Clone, Copy, PartialEq, Eq, Debug)]
@@ -21,5 +23,13 @@ impl Layer {
             Layer::Solver => "solver",
             Layer::Console => "console",
         }
+    }
+}
+
+impl fmt::Display for Layer {
+    ghost output = { λ layer. Some (layer_name layer) };
+
+    fn fmt<W: fmt::Write>(&self, f: &mut fmt::Formatter<W>) -> fmt::Result {
+        f.write_str(self.name())
     }
 }

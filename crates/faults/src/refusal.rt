@@ -1,26 +1,28 @@
-ghost use Rattle.std.specs.Prelude.{◌≡◌};
+ghost use Rattle.std.specs.Prelude.{◌≡◌, Some};
 ghost use Rattle.faults.specs.Numbers.{number};
 ghost use Rattle.faults.specs.Words.{wording};
+
+use std::fmt;
 
 // The reasons for which a call refuses. A call tests for them in this order and reports the first that applies.
 #[derive(Clone, Copy, PartialEq, Eq, Debug)]
 pub enum Refusal {
-    NotANetworkFile,
-    UnknownVersion,
-    TooManyNodesOrPipes,
-    WrongFileLength,
-    WeightOutOfRange,
-    BadNodeOrPipe,
-    CostOutOfRange,
-    BadMarks,
-    BadProposal,
-    WrongPhase,
-    NoReleaseLeft,
-    WrongSerial,
-    BufferTooShort,
-    BadFlowNetwork,
-    CapacityTooLarge,
-    NotACommand,
+    NotANetworkFile = 1,
+    UnknownVersion = 2,
+    TooManyNodesOrPipes = 3,
+    WrongFileLength = 4,
+    WeightOutOfRange = 5,
+    BadNodeOrPipe = 6,
+    CostOutOfRange = 7,
+    BadMarks = 8,
+    BadProposal = 9,
+    WrongPhase = 10,
+    NoReleaseLeft = 11,
+    WrongSerial = 12,
+    BufferTooShort = 13,
+    BadFlowNetwork = 14,
+    CapacityTooLarge = 15,
+    NotACommand = 16,
 }
 
 impl Refusal {
@@ -29,31 +31,16 @@ impl Refusal {
         ensures value { result ≡ number self }
         ensures alone { (other : Refusal) → number other ≡ result → other ≡ self }
     {
-        match self {
-            Refusal::NotANetworkFile => 1,
-            Refusal::UnknownVersion => 2,
-            Refusal::TooManyNodesOrPipes => 3,
-            Refusal::WrongFileLength => 4,
-            Refusal::WeightOutOfRange => 5,
-            Refusal::BadNodeOrPipe => 6,
-            Refusal::CostOutOfRange => 7,
-            Refusal::BadMarks => 8,
-            Refusal::BadProposal => 9,
-            Refusal::WrongPhase => 10,
-            Refusal::NoReleaseLeft => 11,
-            Refusal::WrongSerial => 12,
-            Refusal::BufferTooShort => 13,
-            Refusal::BadFlowNetwork => 14,
-            Refusal::CapacityTooLarge => 15,
-            Refusal::NotACommand => 16,
-        }
+        self as u8
     }
+}
+
+impl fmt::Display for Refusal {
+    ghost output = { λ refusal. Some (wording refusal) };
 
     // What is wrong, in words.
-    pub(crate) fn wording(self) -> &'static str
-        ensures { result.now ≡ wording self }
-    {
-        match self {
+    fn fmt<W: fmt::Write>(&self, f: &mut fmt::Formatter<W>) -> fmt::Result {
+        f.write_str(match self {
             Refusal::NotANetworkFile => "the file has under 8 bytes or does not begin with DZN",
             Refusal::UnknownVersion => "the file's version is not one that this program reads",
             Refusal::TooManyNodesOrPipes => "there would be over 128 nodes or over 512 pipes",
@@ -73,6 +60,6 @@ impl Refusal {
                 "a flow network is over the limits, a list or marks buffer has the wrong length, or an end node is missing or doubled",
             Refusal::CapacityTooLarge => "the capacities of a flow network sum to more than 2^62",
             Refusal::NotACommand => "the line is over 400 bytes or is no command",
-        }
+        })
     }
 }

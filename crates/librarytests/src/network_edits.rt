@@ -25,27 +25,27 @@ fn weights_and_costs_at_their_limits(rt: HostRuntime) -> Result<(), Fail> {
     assert_eq!(rt; network.add_node(4_000), Ok(1));
     assert_eq!(rt;
         network.add_node(4_001),
-        Err(Fault::board(Refusal::WeightOutOfRange))
+        Err(Fault::of(Layer::Board, Refusal::WeightOutOfRange))
     );
     assert_eq!(rt;
         network.add_node(0),
-        Err(Fault::board(Refusal::WeightOutOfRange))
+        Err(Fault::of(Layer::Board, Refusal::WeightOutOfRange))
     );
     assert_eq!(rt; network.join(0, 1, 40_000), Ok(0));
     assert_eq!(rt;
         network.join(0, 1, 40_001),
-        Err(Fault::board(Refusal::CostOutOfRange))
+        Err(Fault::of(Layer::Board, Refusal::CostOutOfRange))
     );
     assert_eq!(rt;
         network.join(0, 1, 0),
-        Err(Fault::board(Refusal::CostOutOfRange))
+        Err(Fault::of(Layer::Board, Refusal::CostOutOfRange))
     );
     Ok(())
 }
 
 #[test]
 fn a_full_network_is_refused_first(rt: HostRuntime) -> Result<(), Fail> {
-    let full = Err(Fault::board(Refusal::TooManyNodesOrPipes));
+    let full = Err(Fault::of(Layer::Board, Refusal::TooManyNodesOrPipes));
     let mut network = joined(&rt, rt.alloc(), 128, 512)?;
     assert_eq!(rt; network.add_node(1), full);
     assert_eq!(rt; network.add_node(4_001), full);
@@ -59,15 +59,15 @@ fn a_weight_is_tested_before_its_node(rt: HostRuntime) -> Result<(), Fail> {
     let mut network = joined(&rt, rt.alloc(), 1, 0)?;
     assert_eq!(rt;
         network.weigh(7, 4_001),
-        Err(Fault::board(Refusal::WeightOutOfRange))
+        Err(Fault::of(Layer::Board, Refusal::WeightOutOfRange))
     );
     assert_eq!(rt;
         network.weigh(7, 4_000),
-        Err(Fault::board(Refusal::BadNodeOrPipe))
+        Err(Fault::of(Layer::Board, Refusal::BadNodeOrPipe))
     );
     assert_eq!(rt;
         network.join(0, 0, 40_001),
-        Err(Fault::board(Refusal::BadNodeOrPipe))
+        Err(Fault::of(Layer::Board, Refusal::BadNodeOrPipe))
     );
     Ok(())
 }
@@ -82,7 +82,7 @@ fn a_removed_pipe_lowers_later_numbers(rt: HostRuntime) -> Result<(), Fail> {
     assert_eq!(rt; network.boundary(&[0, 0, 1]), Ok(7));
     assert_eq!(rt;
         network.remove(1),
-        Err(Fault::board(Refusal::BadNodeOrPipe))
+        Err(Fault::of(Layer::Board, Refusal::BadNodeOrPipe))
     );
     Ok(())
 }

@@ -1,5 +1,6 @@
 // The worked file, each refusal with its place, and buffers of several lengths.
 use faults::fault::Fault;
+use faults::layer::Layer;
 use faults::refusal::Refusal;
 use netfile::file::{read, write};
 use network::network::Network;
@@ -40,7 +41,7 @@ fn a_cut_file_is_refused_and_the_network_stays(rt: HostRuntime) -> Result<(), Fa
         } else {
             Refusal::WrongFileLength
         };
-        let fault = Fault::file(refusal, size);
+        let fault = Fault::of(Layer::File, refusal).at(size);
         assert_eq!(rt; read(&PAIR[..size], &mut network), Err(fault));
         assert_eq!(rt; network.weights(), [7].as_slice());
     }
@@ -72,7 +73,7 @@ fn a_changed_byte_is_refused_at_its_place(rt: HostRuntime) -> Result<(), Fail> {
         if let Some(slot) = file.get_mut(changed) {
             *slot = byte;
         }
-        let fault = Fault::file(refusal, place);
+        let fault = Fault::of(Layer::File, refusal).at(place);
         assert_eq!(rt; read(&file, &mut network), Err(fault));
     }
     Ok(())
@@ -82,13 +83,13 @@ fn a_changed_byte_is_refused_at_its_place(rt: HostRuntime) -> Result<(), Fail> {
 fn the_first_fault_is_reported(rt: HostRuntime) -> Result<(), Fail> {
     let mut network = single(&rt, rt.alloc())?;
     let both_weights = [0x44, 0x5A, 0x4E, 0, 1, 2, 0, 0, 0, 0, 0, 0];
-    let fault = Fault::file(Refusal::WeightOutOfRange, 8);
+    let fault = Fault::of(Layer::File, Refusal::WeightOutOfRange).at(8);
     assert_eq!(rt; read(&both_weights, &mut network), Err(fault));
     let ends_and_cost = [0x44, 0x5A, 0x4E, 0, 1, 1, 0, 1, 0, 1, 0, 0, 0, 0];
-    let fault = Fault::file(Refusal::BadNodeOrPipe, 10);
+    let fault = Fault::of(Layer::File, Refusal::BadNodeOrPipe).at(10);
     assert_eq!(rt; read(&ends_and_cost, &mut network), Err(fault));
     let nodes_and_pipes = [0x44, 0x5A, 0x4E, 0, 1, 129, 2, 1];
-    let fault = Fault::file(Refusal::TooManyNodesOrPipes, 5);
+    let fault = Fault::of(Layer::File, Refusal::TooManyNodesOrPipes).at(5);
     assert_eq!(rt; read(&nodes_and_pipes, &mut network), Err(fault));
     Ok(())
 }
@@ -97,7 +98,7 @@ fn the_first_fault_is_reported(rt: HostRuntime) -> Result<(), Fail> {
 fn a_short_buffer_stays_as_it_was(rt: HostRuntime) -> Result<(), Fail> {
     let network = single(&rt, rt.alloc())?;
     let mut out = [9; 10];
-    let fault = Fault::file(Refusal::BufferTooShort, 0);
+    let fault = Fault::of(Layer::File, Refusal::BufferTooShort);
     assert_eq!(rt; write(&network, &mut out[..9]), Err(fault));
     assert_eq!(rt; &out, &[9; 10]);
     assert_eq!(rt; write(&network, &mut out), Ok(10));

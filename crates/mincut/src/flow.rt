@@ -5,6 +5,7 @@ ghost use Rattle.mincut.specs.Solver.{cut_refusal, misshapen};
 ghost use Rattle.mincut.specs.View.{flow_of};
 
 use faults::fault::Fault;
+use faults::layer::Layer;
 use faults::refusal::Refusal;
 use network::limits::{MAX_NODES, MAX_PIPES};
 
@@ -35,10 +36,10 @@ impl FlowNetwork<'_> {
         ensures { result ≡ answer (cut_refusal (flow_of self.entry) marks) Prim.tt }
     {
         if self.is_misshapen(marks) {
-            return Err(Fault::solver(Refusal::BadFlowNetwork));
+            return Err(Fault::of(Layer::Solver, Refusal::BadFlowNetwork));
         }
         if self.total_capacity() > MAX_CAPACITY {
-            return Err(Fault::solver(Refusal::CapacityTooLarge));
+            return Err(Fault::of(Layer::Solver, Refusal::CapacityTooLarge));
         }
         Ok(())
     }

@@ -8,6 +8,7 @@ use crate::header::open;
 use crate::reading::{add_nodes, check_nodes, check_pipes, join_pipes};
 use crate::writing::{put_file, size_of};
 use faults::fault::Fault;
+use faults::layer::Layer;
 use faults::refusal::Refusal;
 use network::network::Network;
 
@@ -36,7 +37,7 @@ pub fn write(network: &Network, out: &mut [u8]) -> Result<usize, Fault>
     let pipes = network.pipes();
     let size = size_of(weights, pipes);
     if out.len() < size {
-        return Err(Fault::file(Refusal::BufferTooShort, 0));
+        return Err(Fault::of(Layer::File, Refusal::BufferTooShort));
     }
     put_file(out, weights, pipes);
     Ok(size)

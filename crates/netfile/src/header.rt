@@ -6,6 +6,7 @@ ghost use Rattle.netfile.specs.Format.{file_of, file_size, net_of, node_place, p
 ghost use Rattle.netfile.specs.Meaning.{header_fault, mark_place, node_count, node_records, pipe_records};
 
 use faults::fault::Fault;
+use faults::layer::Layer;
 use faults::refusal::Refusal;
 use network::limits::{MAX_NODES, MAX_PIPES};
 
@@ -78,22 +79,22 @@ pub(crate) fn open(file: &[u8]) -> Result<Records<'_>, Fault>
     ensures written { IfOk result (λ records. file_of (net_of (map weight_from records.nodes.now) (map pipe_from records.pipes.now)) ≡ file.now) }
 {
     let [b'D', b'Z', b'N', v1, v0, nodes, p1, p0, records @ ..] = file else {
-        return Err(Fault::file(Refusal::NotANetworkFile, mark_place(file)));
+        return Err(Fault::of(Layer::File, Refusal::NotANetworkFile).at(mark_place(file)));
     };
     if u16::from_be_bytes([*v1, *v0]) != VERSION {
-        return Err(Fault::file(Refusal::UnknownVersion, VERSION_PLACE));
+        return Err(Fault::of(Layer::File, Refusal::UnknownVersion).at(VERSION_PLACE));
     }
     let nodes = usize::from(*nodes);
     if nodes > MAX_NODES {
-        return Err(Fault::file(Refusal::TooManyNodesOrPipes, NODE_COUNT_PLACE));
+        return Err(Fault::of(Layer::File, Refusal::TooManyNodesOrPipes).at(NODE_COUNT_PLACE));
     }
     let pipes = usize::from(u16::from_be_bytes([*p1, *p0]));
     if pipes > MAX_PIPES {
-        return Err(Fault::file(Refusal::TooManyNodesOrPipes, PIPE_COUNT_PLACE));
+        return Err(Fault::of(Layer::File, Refusal::TooManyNodesOrPipes).at(PIPE_COUNT_PLACE));
     }
     let size = file_size(nodes, pipes);
     if file.len() != size {
-        return Err(Fault::file(Refusal::WrongFileLength, size.min(file.len())));
+        return Err(Fault::of(Layer::File, Refusal::WrongFileLength).at(size.min(file.len())));
     }
     let (nodes, pipes) = records.split_at(NODE_SIZE * nodes);
     let (nodes, _) = nodes.as_chunks();

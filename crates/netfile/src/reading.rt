@@ -9,6 +9,7 @@ ghost use Rattle.netfile.specs.Meaning.{nodes_fault, pipes_fault};
 
 use crate::header::{node_place, pipe_place};
 use faults::fault::Fault;
+use faults::layer::Layer;
 use network::limits::{check_pipe, check_weight};
 use network::network::Network;
 use network::pipe::Pipe;
@@ -39,7 +40,7 @@ pub(crate) fn check_nodes(records: &[[u8; 2]]) -> Result<(), Fault>
 {
     for (v, record) in records.iter().enumerate() {
         if let Err(fault) = check_weight(weight_from(*record)) {
-            return Err(Fault::file(fault.refusal, node_place(v)));
+            return Err(Fault::of(Layer::File, fault.refusal).at(node_place(v)));
         }
     }
     Ok(())
@@ -53,7 +54,7 @@ pub(crate) fn check_pipes(nodes: usize, records: &[[u8; 4]]) -> Result<(), Fault
 {
     for (p, record) in records.iter().enumerate() {
         if let Err(fault) = check_pipe(nodes, pipe_from(*record)) {
-            return Err(Fault::file(fault.refusal, pipe_place(nodes, p)));
+            return Err(Fault::of(Layer::File, fault.refusal).at(pipe_place(nodes, p)));
         }
     }
     Ok(())

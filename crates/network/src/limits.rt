@@ -5,6 +5,7 @@ ghost use Rattle.network.specs.Refusals.{answer};
 
 use crate::pipe::Pipe;
 use faults::fault::Fault;
+use faults::layer::Layer;
 use faults::refusal::Refusal;
 
 pub const MAX_NODES: usize = 128;
@@ -24,7 +25,7 @@ pub fn check_weight(weight: u32) -> Result<(), Fault>
     ensures { result ≡ answer (weight_fault weight) Prim.tt }
 {
     if weight < MIN_WEIGHT || weight > MAX_WEIGHT {
-        return Err(Fault::board(Refusal::WeightOutOfRange));
+        return Err(Fault::of(Layer::Board, Refusal::WeightOutOfRange));
     }
     Ok(())
 }
@@ -34,10 +35,10 @@ pub fn check_pipe(nodes: usize, pipe: Pipe) -> Result<(), Fault>
     ensures { result ≡ answer (pipe_fault nodes pipe) Prim.tt }
 {
     if pipe.first >= nodes || pipe.second >= nodes || pipe.first == pipe.second {
-        return Err(Fault::board(Refusal::BadNodeOrPipe));
+        return Err(Fault::of(Layer::Board, Refusal::BadNodeOrPipe));
     }
     if pipe.cost < MIN_COST || pipe.cost > MAX_COST {
-        return Err(Fault::board(Refusal::CostOutOfRange));
+        return Err(Fault::of(Layer::Board, Refusal::CostOutOfRange));
     }
     Ok(())
 }

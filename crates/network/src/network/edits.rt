@@ -8,6 +8,7 @@ use super::Network;
 use crate::limits::{MAX_NODES, MAX_PIPES, check_pipe, check_weight};
 use crate::pipe::Pipe;
 use faults::fault::Fault;
+use faults::layer::Layer;
 use faults::refusal::Refusal;
 
 impl Network {
@@ -18,7 +19,7 @@ impl Network {
     {
         let node = self.weights.len();
         if node >= MAX_NODES {
-            return Err(Fault::board(Refusal::TooManyNodesOrPipes));
+            return Err(Fault::of(Layer::Board, Refusal::TooManyNodesOrPipes));
         }
         check_weight(weight)?;
         self.weights.push_reserved(weight);
@@ -32,7 +33,7 @@ impl Network {
     {
         check_weight(weight)?;
         if node >= self.weights.len() {
-            return Err(Fault::board(Refusal::BadNodeOrPipe));
+            return Err(Fault::of(Layer::Board, Refusal::BadNodeOrPipe));
         }
         self.weights[node] = weight;
         Ok(())
@@ -45,7 +46,7 @@ impl Network {
     {
         let number = self.pipes.len();
         if number >= MAX_PIPES {
-            return Err(Fault::board(Refusal::TooManyNodesOrPipes));
+            return Err(Fault::of(Layer::Board, Refusal::TooManyNodesOrPipes));
         }
         let pipe = Pipe {
             first,
@@ -63,7 +64,7 @@ impl Network {
         ensures after { view self.new ≡ after_edit (view self.old) (remove pipe) }
     {
         if pipe >= self.pipes.len() {
-            return Err(Fault::board(Refusal::BadNodeOrPipe));
+            return Err(Fault::of(Layer::Board, Refusal::BadNodeOrPipe));
         }
         let _ = self.pipes.remove(pipe);
         Ok(())

@@ -10,7 +10,7 @@ loop-v-preserved c = scanned_more _ _ _ _ _ c.loop-v-test.true _ (search rules) 
 
 pub returns-in-Err : goal.returns-in-Err
 returns-in-Err c =
-    scanned_err _ _ _ _ _ c.loop-v-test.true _ (search rules) c.loop-v.invariant _ _ _ c.in-Err.is c.node_place.ensures c.file.ensures
+    scanned_err _ _ _ _ _ c.loop-v-test.true _ (search rules) c.loop-v.invariant _ _ _ c.in-Err.is c.node_place.ensures (search rules)
 
 pub returns : goal.returns
 returns c = scanned_ok _ _ _ _ _ (omega arith) c.loop-v.invariant

@@ -10,7 +10,7 @@ loop-p-preserved c = scanned_more _ _ _ _ _ c.loop-p-test.true _ (search rules) 
 
 pub returns-in-Err : goal.returns-in-Err
 returns-in-Err c =
-    scanned_err _ _ _ _ _ c.loop-p-test.true _ (search rules) c.loop-p.invariant _ _ _ c.in-Err.is c.pipe_place.ensures c.file.ensures
+    scanned_err _ _ _ _ _ c.loop-p-test.true _ (search rules) c.loop-p.invariant _ _ _ c.in-Err.is c.pipe_place.ensures (search rules)
 
 pub returns : goal.returns
 returns c = scanned_ok _ _ _ _ _ (omega arith) c.loop-p.invariant
