@@ -1,24 +1,15 @@
 -- The loops that test a flow network, and what holds of one that no solver refuses.
 -- Assumes nothing.
-use Rattle.std.proofs.Common.{◌≡◌, ℕ, zero, suc, ◌+◌, ◌<◌, ◌≤◌, min, Bool, true, false, ◌||◌, List, [], ◌∷◌, length, get_or, take, drop, None, sum_by, sym, ap, ◌∙◌, arith}
-use Rattle.std.proofs.lemmas.List.{drop_more, take_all}
+use Rattle.std.proofs.Common.{◌≡◌, ℕ, zero, suc, ◌+◌, ◌<◌, ◌≤◌, min, false, List, [], ◌∷◌, length, get_or, take, None, sum_by, ap, ◌∙◌, arith}
+use Rattle.std.proofs.lemmas.List.{take_all}
 use Rattle.std.proofs.lemmas.List.Sums.{sum_by_more}
 use Rattle.std.proofs.lemmas.Bool.{eqb-false, eqb-true, leb-false, ltb-false, not-false, or_parts}
 use Rattle.network.proofs.Accepting.{passed}
 use Rattle.network.specs.Limits.{max_nodes, max_pipes}
-use Rattle.mincut.specs.declared.flow.FlowPipe.{FlowPipe}
-use Rattle.mincut.specs.Flow.{Flow, bad_pipe, no_pipe, some_bad_pipe, total_capacity}
+use Rattle.network.specs.declared.pipe.Pipe.{Pipe}
+use Rattle.mincut.specs.Flow.{Flow, bad_pipe, some_bad_pipe, total_capacity}
+use Rattle.network.specs.Limits.{no_pipe}
 use Rattle.mincut.specs.Solver.{cut_refusal, max_capacity, misshapen}
-
--- what is left of the pipes, one pipe on
-pub bad_at : (n : ℕ) (ps : List FlowPipe) (i : ℕ) → i < length ps → some_bad_pipe n (drop i ps) ≡ (bad_pipe n (get_or ps i no_pipe) || some_bad_pipe n (drop (i + 1) ps))
-bad_at n ps i h = ap (some_bad_pipe n) (drop_more ps i no_pipe h)
-
-pub bad_found : (n : ℕ) (ps : List FlowPipe) (i : ℕ) → i < length ps → some_bad_pipe n (drop i ps) ≡ some_bad_pipe n ps → true ≡ bad_pipe n (get_or ps i no_pipe) → true ≡ some_bad_pipe n ps
-bad_found n ps i h inv e = ap (λ (b : Bool). b || some_bad_pipe n (drop (i + 1) ps)) e ∙ sym (bad_at n ps i h) ∙ inv
-
-pub bad_passed : (n : ℕ) (ps : List FlowPipe) (i : ℕ) → i < length ps → some_bad_pipe n (drop i ps) ≡ some_bad_pipe n ps → false ≡ bad_pipe n (get_or ps i no_pipe) → some_bad_pipe n (drop (i + 1) ps) ≡ some_bad_pipe n ps
-bad_passed n ps i h inv e = ap (λ (b : Bool). b || some_bad_pipe n (drop (i + 1) ps)) e ∙ sym (bad_at n ps i h) ∙ inv
 
 -- a sum that stops at m, of the first i elements
 abbrev pub Capped : {X : Type 0} → (X → ℕ) → ℕ → List X → ℕ → ℕ → Type 0
@@ -32,7 +23,7 @@ module _ {X : Type 0} (f : X → ℕ) (m : ℕ) (xs : List X) where
   capped_all i s h inv = inv ∙ ap (λ (l : List X). min (sum_by f l) m) (take_all i xs h)
 
 -- the ends of the pipe are two different nodes of the n that there are
-abbrev pub GoodPipe : ℕ → FlowPipe → Type 0
+abbrev pub GoodPipe : ℕ → Pipe ℕ → Type 0
 GoodPipe n p = (p.first < n) × (p.second < n) × (p.first ≡ p.second → ⊥)
 
 -- what holds of a flow network and the length of a marks buffer that no solver refuses
@@ -45,13 +36,13 @@ pub record Accepted (net : Flow) (m : ℕ) : Type 0 where
   pub ends : (k : ℕ) → k < length net.pipes → GoodPipe net.nodes (get_or net.pipes k no_pipe)
   pub small : total_capacity net ≤ max_capacity
 
-good_pipe : (n : ℕ) (p : FlowPipe) → bad_pipe n p ≡ false → GoodPipe n p
+good_pipe : (n : ℕ) (p : Pipe ℕ) → bad_pipe n p ≡ false → GoodPipe n p
 good_pipe n p e =
     let a = or_parts _ _ e in
     let b = or_parts _ _ a.1 in
     (leb-false _ _ a.0, leb-false _ _ b.0, eqb-false _ _ b.1)
 
-good_pipes : (n : ℕ) (ps : List FlowPipe) → some_bad_pipe n ps ≡ false → (k : ℕ) → k < length ps → GoodPipe n (get_or ps k no_pipe)
+good_pipes : (n : ℕ) (ps : List (Pipe ℕ)) → some_bad_pipe n ps ≡ false → (k : ℕ) → k < length ps → GoodPipe n (get_or ps k no_pipe)
 good_pipes n [] e k h = absurd (omega arith)
 good_pipes n (p ∷ ps) e zero h = good_pipe n p (or_parts _ _ e).0
 good_pipes n (p ∷ ps) e (suc k) h = good_pipes n ps (or_parts _ _ e).1 k (omega arith)

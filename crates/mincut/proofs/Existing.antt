@@ -8,7 +8,8 @@ use Rattle.std.proofs.lemmas.Bool.{and_parts, cases_lt, false≢true}
 use Rattle.std.specs.List.{range_with_len}
 use Rattle.faults.specs.declared.fault.Fault.{Fault}
 use Rattle.network.specs.Net.{Nodes, below, exactly_one, set_of, when, within, weight_in as sum_in}
-use Rattle.mincut.specs.Flow.{Contained, Flow, capacity, carried_across, carries}
+use Rattle.mincut.specs.Flow.{Contained, Flow, capacity}
+use Rattle.network.specs.Net.{adds, cost_across}
 use Rattle.mincut.specs.Laws.{AnswerExists}
 use Rattle.mincut.specs.Solver.{Answers, Solved, cut_refusal}
 use Rattle.mincut.proofs.Checking.{Accepted, accepted}
@@ -42,11 +43,11 @@ one_pipe a b c d w = grind arith
 
 -- the capacities of the intersection and of the union sum to at most those of the two sets
 submodular : (net : Flow) (X Y : Nodes) → capacity net (within Y X) + capacity net (union X Y) ≤ capacity net X + capacity net Y
-unfolding capacity carried_across sum_in
+unfolding capacity cost_across sum_in
 submodular net X Y =
     let inside = below_pairs _ _ _ _ (λ v. node_in (X v) (Y v) (get_or net.sinks v 0)) (length net.sinks) in
     let outside = below_pairs _ _ _ _ (λ v. node_out (X v) (Y v) (get_or net.sources v 0)) (length net.sources) in
-    let across = sum_by_pairs (carries (within Y X)) (carries (union X Y)) (carries X) (carries Y) (λ p. one_pipe (X p.first) (X p.second) (Y p.first) (Y p.second) p.capacity) net.pipes in
+    let across = sum_by_pairs (adds (within Y X)) (adds (union X Y)) (adds X) (adds Y) (λ p. one_pipe (X p.first) (X p.second) (Y p.first) (Y p.second) p.cost) net.pipes in
     omega arith
 
 -- node 0 where b holds, and node v + 1 for each node v of X

@@ -3,8 +3,10 @@
 use Rattle.std.proofs.Common.{◌≡◌, ℕ, zero, suc, ◌<◌, Bool, not, List, [], ◌∷◌, length, get_or, sum_by, refl, ap, arith}
 use Rattle.std.proofs.lemmas.List.Sums.{sum_by-cons}
 use Rattle.network.specs.Net.{Nodes, below, complement, exactly_one, when, weight_in as sum_in}
-use Rattle.mincut.specs.declared.flow.FlowPipe.{FlowPipe}
-use Rattle.mincut.specs.Flow.{Flow, capacity, carried_across, carries, no_pipe}
+use Rattle.network.specs.declared.pipe.Pipe.{Pipe}
+use Rattle.mincut.specs.Flow.{Flow, capacity}
+use Rattle.network.specs.Net.{adds, cost_across}
+use Rattle.network.specs.Limits.{no_pipe}
 use Rattle.mincut.proofs.Checking.{Accepted, GoodPipe}
 
 -- sums of equal terms
@@ -23,12 +25,12 @@ unfolding sum_in
 sum_in_same xs X Y e = below_same (length xs) _ _ (λ v h. ap (λ (b : Bool). when b (get_or xs v 0)) (e v h))
 
 pub capacity_same : (net : Flow) (m : ℕ) → Accepted net m → (X Y : Nodes) → ((v : ℕ) → v < net.nodes → X v ≡ Y v) → capacity net X ≡ capacity net Y
-unfolding capacity carried_across
+unfolding capacity cost_across
 capacity_same net m ok X Y e =
     let inside = sum_in_same net.sinks X Y (λ v h. e v (omega (arith, ok.sinks))) in
     let outside = sum_in_same net.sources (complement X) (complement Y) (λ v h. ap not (e v (omega (arith, ok.sources)))) in
-    let across = sum_by_same (carries X) (carries Y) no_pipe net.pipes (λ k h. pipe_same (get_or net.pipes k no_pipe) (ok.ends k h)) in
+    let across = sum_by_same (adds X) (adds Y) no_pipe net.pipes (λ k h. pipe_same (get_or net.pipes k no_pipe) (ok.ends k h)) in
     omega arith
   where
-    pipe_same : (p : FlowPipe) → GoodPipe net.nodes p → carries X p ≡ carries Y p
-    pipe_same p g i = when (exactly_one (e p.first g.0 i) (e p.second g.1 i)) p.capacity
+    pipe_same : (p : Pipe ℕ) → GoodPipe net.nodes p → adds X p ≡ adds Y p
+    pipe_same p g i = when (exactly_one (e p.first g.0 i) (e p.second g.1 i)) p.cost

@@ -1,44 +1,37 @@
 -- A flow network as lists, and the capacity of a set of its nodes.
 -- Assumes nothing.
-use Rattle.std.specs.Prelude.{◌≡◌, ℕ, ◌+◌, ◌<◌, ◌≤◌, Bool, true, false, ◌||◌, List, [], ◌∷◌, sum_by, sum}
+use Rattle.std.specs.Prelude.{◌≡◌, ℕ, ◌+◌, ◌<◌, ◌≤◌, Bool, true, List, sum_by, sum, Contains}
+use Rattle.std.specs.List.{list_any}
 use Rattle.network.specs.Edits.{bad_ends}
-use Rattle.network.specs.Net.{Nodes, complement, exactly_one, when, weight_in as sum_in}
-use Rattle.mincut.specs.declared.flow.FlowPipe.{FlowPipe}
+use Rattle.network.specs.Net.{Nodes, complement, cost_across, weight_in as sum_in}
+use Rattle.network.specs.declared.pipe.Pipe.{Pipe}
 
 -- how many nodes there are, the capacity from the source to each, the capacity from each to the sink, and the pipes
 pub record Flow : Type 0 where
   pub nodes : ℕ
   pub sources : List ℕ
   pub sinks : List ℕ
-  pub pipes : List FlowPipe
+  pub pipes : List (Pipe ℕ)
 
--- what stands for a pipe past the last one
-abbrev pub no_pipe : FlowPipe
-no_pipe = record { first = 0; second = 0; capacity = 0 }
-
--- what a pipe adds to the capacity of X: its own where exactly one of its ends is in X
-abbrev pub carries : Nodes → FlowPipe → ℕ
-carries X p = when (exactly_one (X p.first) (X p.second)) p.capacity
-
--- the summed capacity of the pipes, of ps, that cross X
-unfoldable pub carried_across : List FlowPipe → Nodes → ℕ
-carried_across ps X = sum_by (carries X) ps
-
--- the capacity of X: the sink capacities inside it, the source capacities outside it, and the pipes that cross it
+-- the capacity of X: the sink capacities inside it, the source capacities outside it, and those of the pipes that cross
+-- it, whose capacity is what they cost to cut
 unfoldable pub capacity : Flow → Nodes → ℕ
-capacity net X = sum_in net.sinks X + sum_in net.sources (complement X) + carried_across net.pipes X
+capacity net X = sum_in net.sinks X + sum_in net.sources (complement X) + cost_across net.pipes X
 
 -- what all capacities sum to
 unfoldable pub total_capacity : Flow → ℕ
-total_capacity net = sum net.sources + sum net.sinks + sum_by (λ p. p.capacity) net.pipes
+total_capacity net = sum net.sources + sum net.sinks + sum_by (λ p. p.cost) net.pipes
 
 -- the ends of the pipe are not two different nodes of the n that there are
-abbrev pub bad_pipe : ℕ → FlowPipe → Bool
+abbrev pub bad_pipe : ℕ → Pipe ℕ → Bool
 bad_pipe n p = bad_ends n p.first p.second
 
-abbrev pub some_bad_pipe : ℕ → List FlowPipe → Bool
-some_bad_pipe n [] = false
-some_bad_pipe n (p ∷ ps) = bad_pipe n p || some_bad_pipe n ps
+abbrev pub some_bad_pipe : ℕ → List (Pipe ℕ) → Bool
+some_bad_pipe n ps = list_any (bad_pipe n) ps
+
+-- what a rule may answer of each element of xs is the element's amount
+abbrev pub Measures : {X : Type 0} → (X → ℕ → Type 0) → List X → (X → ℕ) → Type 0
+Measures answers xs amount = (x : _) (r : ℕ) → Contains xs x → answers x r → r ≡ amount x
 
 -- no set has a smaller capacity than M
 abbrev pub MinimumCut : Flow → Nodes → Type 0

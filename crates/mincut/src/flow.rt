@@ -1,27 +1,25 @@
-ghost use Rattle.std.specs.Prelude.{◌≡◌, ◌-◌, ◌^◌, min, sum_by, sum};
+ghost use Rattle.std.specs.Prelude.{◌≡◌, ◌-◌, ◌^◌, min, sum_by, ℕ};
+ghost use Rattle.std.specs.Fn.{FnReturnsAt};
 ghost use Rattle.network.specs.Refusals.{answer};
-ghost use Rattle.mincut.specs.Flow.{bad_pipe, some_bad_pipe, total_capacity};
+ghost use Rattle.mincut.specs.Flow.{Measures, some_bad_pipe, total_capacity};
 ghost use Rattle.mincut.specs.Solver.{cut_refusal, misshapen};
 ghost use Rattle.mincut.specs.View.{flow_of};
 
 use faults::fault::Fault;
 use faults::layer::Layer;
 use faults::refusal::Refusal;
-use network::limits::{MAX_NODES, MAX_PIPES};
+use network::limits::{MAX_NODES, MAX_PIPES, has_bad_ends};
+use network::pipe::Pipe;
 
 // The most that all capacities of a flow network may sum to, 2^62.
 pub const MAX_CAPACITY: u64 = 1 << 62;
 
-// A pipe of a flow network, between two different nodes. It carries its capacity both ways.
-#[derive(Clone, Copy, PartialEq, Eq, Debug)]
-pub struct FlowPipe {
-    pub first: usize,
-    pub second: usize,
-    pub capacity: u64,
-}
+// A pipe of a flow network. What it costs to cut it is its capacity, which it carries both ways.
+pub type FlowPipe = Pipe<u64>;
 
 // So many nodes, for each node the capacity from the source to it and the capacity from it to the sink, and pipes.
 // The lists are lent, so a flow network is as cheap to hand on as a reference.
+// (A count and two lists beside one another, since a list of the wrong length is to be refused.)
 #[derive(Clone, Copy)]
 pub struct FlowNetwork<'a> {
     pub nodes: usize,
@@ -33,7 +31,7 @@ pub struct FlowNetwork<'a> {
 impl FlowNetwork<'_> {
     // Refuses what no solver takes, with a marks buffer of this length.
     pub fn check(self, marks: usize) -> Result<(), Fault>
-        ensures { result ≡ answer (cut_refusal (flow_of self.entry) marks) Prim.tt }
+        ensures { result ≡ answer (cut_refusal (flow_of self.entry) marks) tt }
     {
         if self.is_misshapen(marks) {
             return Err(Fault::of(Layer::Solver, Refusal::BadFlowNetwork));
@@ -60,9 +58,9 @@ impl FlowNetwork<'_> {
     fn total_capacity(self) -> u64
         ensures { result ≡ min (total_capacity (flow_of self.entry)) (2 ^ 64 - 1) }
     {
-        sum_of(self.sources)
-            .saturating_add(sum_of(self.sinks))
-            .saturating_add(sum_of_pipes(self.pipes))
+        saturating_sum(self.sources, |capacity| *capacity)
+            .saturating_add(saturating_sum(self.sinks, |capacity| *capacity))
+            .saturating_add(saturating_sum(self.pipes, |pipe| pipe.cost))
     }
 }
 
@@ -70,39 +68,20 @@ impl FlowNetwork<'_> {
 fn has_bad_pipe(pipes: &[FlowPipe], nodes: usize) -> bool
     ensures { result ≡ some_bad_pipe nodes pipes.now }
 {
-    for pipe in pipes {
-        if is_bad(*pipe, nodes) {
-            return true;
-        }
-    }
-    false
+    pipes
+        .iter()
+        .any(|pipe| has_bad_ends(nodes, pipe.first, pipe.second))
 }
 
-// Whether the ends of the pipe are not two different nodes of so many.
-fn is_bad(pipe: FlowPipe, nodes: usize) -> bool
-    ensures { result ≡ bad_pipe nodes pipe }
+// The sum of what `capacity` gives of each item, or the largest number where that is larger still.
+fn saturating_sum<T, F: Fn(&T) -> u64>(items: &[T], capacity: F) -> u64
+    requires { F.IsAlwaysCallable capacity }
+    ensures { (amount : T → ℕ) → Measures (FnReturnsAt F.Fn capacity) items.now amount → result ≡ min (sum_by amount items.now) (2 ^ 64 - 1) }
 {
-    pipe.first >= nodes || pipe.second >= nodes || pipe.first == pipe.second
-}
-
-// The sum, or the largest number where that is larger still.
-fn sum_of(capacities: &[u64]) -> u64
-    ensures { result ≡ min (sum capacities.now) (2 ^ 64 - 1) }
-{
-    let mut total = 0u64;
-    for capacity in capacities {
-        total = total.saturating_add(*capacity);
+    // A loop, since of a chain that calls `capacity` the check does not find the sum.
+    let mut sum = 0u64;
+    for item in items {
+        sum = sum.saturating_add(capacity(item));
     }
-    total
-}
-
-// The same of the pipes' capacities.
-fn sum_of_pipes(pipes: &[FlowPipe]) -> u64
-    ensures { result ≡ min (sum_by (λ p. p.capacity) pipes.now) (2 ^ 64 - 1) }
-{
-    let mut total = 0u64;
-    for pipe in pipes {
-        total = total.saturating_add(pipe.capacity);
-    }
-    total
+    sum
 }

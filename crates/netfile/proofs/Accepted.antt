@@ -3,16 +3,18 @@
 use Rattle.std.proofs.Common.{◌≡◌, ℕ, ◌+◌, ◌*◌, ◌/◌, ◌%◌, ◌<◌, List, ◌∷◌, ◌++◌, length, get_or, take, drop, None, Ok, sym, ap, ◌∙◌, subst, arith, length-drop}
 use lib.ListN.{length-map}
 use Rattle.std.proofs.lemmas.Nat.{div-mul-add, mod-mul-add}
-use Rattle.std.proofs.ByRecursion.{All-drop, All-get_or, All-map, All-weaker}
+use Rattle.std.proofs.ByRecursion.{All-drop, All-get_or, All-weaker}
 use Rattle.std.proofs.lemmas.List.{drop-drop, drop_more, take_all, take-append-drop}
-use Rattle.std.specs.List.{flat_map, AllByRecursion}
+use Rattle.std.specs.List.{flat_map}
 use Rattle.network.proofs.Accepting.{both_passed, pipe_fits, weight_fits}
+use Rattle.network.specs.Edits.{pipe_fault, weight_fault}
 use Rattle.network.specs.Limits.{PipeFits, WeightFits, WithinLimits, no_pipe}
 use Rattle.network.specs.Net.{count}
 use Rattle.netfile.specs.Format.{Bytes, file_of, header, header_size, node_record, node_size, pipe_from, pipe_record, pipe_size, pipes_place, weight_from}
 use Rattle.netfile.specs.Laws.{AcceptedExactly, AcceptedIsWrittenBack}
 use Rattle.netfile.specs.Meaning.{first_file_fault, meaning, network_in, node_count, node_records, nodes_fault, pipe_count, pipe_records, pipes_fault}
-use Rattle.netfile.proofs.Cutting.{joined_chunked, length_chunked, node_again, pipe_again}
+use Rattle.netfile.specs.Records.{node_laws, pipe_laws}
+use Rattle.netfile.proofs.Cutting.{joined_chunked, length_chunked}
 use Rattle.netfile.proofs.Faultless.{each_faultless}
 use Rattle.netfile.proofs.Leading.{Good, good}
 use Rattle.netfile.proofs.Scanning.{answered_ok}
@@ -42,12 +44,10 @@ module _ (file : List ℕ) where
   limits f =
       let n = count_is in
       let m = pipes_are in
-      let ws : AllByRecursion WeightFits (network_in file).weights =
-      All-map WeightFits weight_from (node_records file)
-      (All-weaker _ _ (λ r e. weight_fits (weight_from r) e) (node_records file) (each_faultless _ node_size header_size (node_records file) f.nodes)) in
-      let ps : AllByRecursion (PipeFits (node_count file)) (network_in file).pipes =
-      All-map (PipeFits (node_count file)) pipe_from (pipe_records file)
-      (All-weaker _ _ (λ r e. pipe_fits (node_count file) (pipe_from r) e) (pipe_records file) (each_faultless _ pipe_size (pipes_place (node_count file)) (pipe_records file) f.pipes)) in (
+      let ws = All-weaker _ WeightFits weight_fits (network_in file).weights (each_faultless weight_fault node_size weight_from header_size (node_records file) f.nodes) in
+      let ps =
+      All-weaker _ (PipeFits (node_count file)) (pipe_fits (node_count file)) (network_in file).pipes
+      (each_faultless (pipe_fault (node_count file)) pipe_size pipe_from (pipes_place (node_count file)) (pipe_records file) f.pipes) in (
         omega (arith, f.leading.nodes),
         omega (arith, f.leading.pipes),
         (λ v l. All-get_or WeightFits (network_in file).weights v 0 l ws),
@@ -85,14 +85,14 @@ module _ (file : List ℕ) where
     -- the records
     written_nodes : flat_map node_record (network_in file).weights ≡ take (node_size * node_count file) (drop header_size file)
     written_nodes =
-        joined_chunked node_record weight_from node_size node_again (node_count file) (drop header_size file) (All-drop _ header_size file bytes)
+        joined_chunked node_size weight_from node_record node_laws (node_count file) (drop header_size file) (All-drop _ header_size file bytes)
         (omega (arith, g.whole, length-drop header_size file))
 
     written_pipes : flat_map pipe_record (network_in file).pipes ≡ drop (node_size * node_count file) (drop header_size file)
     written_pipes =
         let rest = drop (pipes_place (node_count file)) file in
         let n : length rest ≡ pipe_size * pipe_count file = omega (arith, g.whole, length-drop (pipes_place (node_count file)) file) in
-        joined_chunked pipe_record pipe_from pipe_size pipe_again (pipe_count file) rest (All-drop _ (pipes_place (node_count file)) file bytes) (omega (arith, n))
+        joined_chunked pipe_size pipe_from pipe_record pipe_laws (pipe_count file) rest (All-drop _ (pipes_place (node_count file)) file bytes) (omega (arith, n))
         ∙ (take_all (pipe_size * pipe_count file) rest (omega (arith, n)) ∙ sym (drop-drop (node_size * node_count file) header_size file))
 
     records : flat_map node_record (network_in file).weights ++ flat_map pipe_record (network_in file).pipes ≡ drop header_size file

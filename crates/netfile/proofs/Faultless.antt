@@ -1,6 +1,6 @@
 -- What the first fault of some records says of each: that none has a fault, or which is the first that has one.
 -- Assumes nothing.
-use Rattle.std.proofs.Common.{◌≡◌, ℕ, zero, suc, ◌+◌, ◌*◌, ◌<◌, List, [], ◌∷◌, length, get_or, Some, None, Option, sym, refl, ap, ◌∙◌, arith}
+use Rattle.std.proofs.Common.{◌≡◌, ℕ, zero, suc, ◌+◌, ◌*◌, ◌<◌, List, [], ◌∷◌, map, length, get_or, Some, None, Option, sym, refl, ap, ◌∙◌, arith}
 use Rattle.std.specs.List.{AllByRecursion}
 use Rattle.faults.specs.Faults.{file_fault}
 use Rattle.faults.specs.declared.fault.Fault.{Fault}
@@ -8,23 +8,26 @@ use Rattle.network.proofs.Accepting.{both_passed}
 use Rattle.network.specs.Refusals.{or_else}
 use Rattle.netfile.specs.Laws.{FirstFaultyRecord, OfFirstFaulty}
 use Rattle.netfile.specs.Meaning.{at_place, first_fault}
+use Rattle.netfile.specs.Records.{RecordLaws}
 
 unplaced : (place : ℕ) (o : Option Fault) → at_place place o ≡ None → o ≡ None
 unplaced place (Some f) e = let z : ◌≡◌ {A = ℕ} 0 1 = cc in absurd (omega arith)
 unplaced place None e = refl
 
-module _ (fault : List ℕ → Option Fault) (size : ℕ) where
-  pub each_faultless : (place : ℕ) (records : List (List ℕ)) → first_fault fault size place records ≡ None → AllByRecursion (λ r. fault r ≡ None) records
+-- values that are read from records of one kind, and the fault of each
+module _ {X : Type 0} (fault : X → Option Fault) (size : ℕ) (read : List ℕ → X) where
+  pub each_faultless : (place : ℕ) (records : List (List ℕ)) → first_fault (λ r. fault (read r)) size place records ≡ None → AllByRecursion (λ x. fault x ≡ None) (map read records)
   unfolding first_fault
   each_faultless place [] e = tt
   each_faultless place (r ∷ rs) e =
       let (f, g) = both_passed _ _ e in
-      (unplaced place (fault r) f, each_faultless (place + size) rs g)
+      (unplaced place (fault (read r)) f, each_faultless (place + size) rs g)
 
-  pub all_faultless : (place : ℕ) (records : List (List ℕ)) → AllByRecursion (λ r. fault r ≡ None) records → first_fault fault size place records ≡ None
+  pub written_faultless : (written : X → List ℕ) → RecordLaws size read written → (place : ℕ) (xs : List X) → AllByRecursion (λ x. fault x ≡ None) xs →
+      first_fault (λ r. fault (read r)) size place (map written xs) ≡ None
   unfolding first_fault
-  all_faultless place [] h = refl
-  all_faultless place (r ∷ rs) h = rw h.0 (all_faultless (place + size) rs h.1)
+  written_faultless written laws place [] h = refl
+  written_faultless written laws place (x ∷ xs) h = rw (laws.read_back x, h.0) (written_faultless written laws (place + size) xs h.1)
 
 -- what holds of the first record and of k more holds of the first k + 1
 one_more : (P : List ℕ → Type 0) (r : List ℕ) (rs : List (List ℕ)) (k : ℕ) → P r → ((i : ℕ) → i < k → P (get_or rs i [])) → (i : ℕ) → i < suc k → P (get_or (r ∷ rs) i [])

@@ -2,37 +2,37 @@
 -- Assumes nothing.
 use Rattle.std.proofs.Common.{◌≡◌, ℕ, ◌+◌, ◌*◌, ◌<◌, ◌≤◌, List, [], ◌∷◌, ◌++◌, length, get_or, take, sym, refl, ap, ◌∙◌, arith, length-append, length-take}
 use lib.Seq.{paste}
-use Rattle.std.proofs.lemmas.List.Edits.{paste_none, paste-paste}
-use Rattle.std.proofs.lemmas.List.{flat_map_more, take_all, take_more}
+use Rattle.std.proofs.lemmas.List.Edits.{paste_all, paste-paste}
+use Rattle.std.proofs.lemmas.List.{flat_map_more, take_more}
 use Rattle.std.specs.List.{flat_map}
+use Rattle.netfile.specs.Answers.{overwritten}
+use Rattle.netfile.specs.Records.{RecordLaws}
 
-module _ {X : Type 0} (f : X → List ℕ) (size : ℕ) (sized : (x : X) → length (f x) ≡ size) where
-  pub length_joined : (xs : List X) → length (flat_map f xs) ≡ size * length xs
+pasted : (out : List ℕ) (place : ℕ) (s : List ℕ) → overwritten out place s ≡ paste out place s (length s)
+pasted out place s = sym (paste_all out place s (length s) refl)
+
+-- bytes written behind others are written with them
+pub overwritten_more : (out : List ℕ) (place : ℕ) (s t : List ℕ) → place ≤ length out → overwritten (overwritten out place s) (place + length s) t ≡ overwritten out place (s ++ t)
+overwritten_more out place s t room =
+    pasted (overwritten out place s) (place + length s) t
+    ∙ (ap (λ d. paste d (place + length s) t (length t)) (pasted out place s)
+    ∙ (paste-paste out place s t (length s) (length t) refl refl room
+    ∙ (ap (paste out place (s ++ t)) (sym (length-append s t)) ∙ sym (pasted out place (s ++ t)))))
+
+module _ {X : Type 0} (size : ℕ) (read : List ℕ → X) (written : X → List ℕ) (laws : RecordLaws size read written) where
+  pub length_joined : (xs : List X) → length (flat_map written xs) ≡ size * length xs
   length_joined [] = omega arith
-  length_joined (x ∷ xs) = length-append (f x) (flat_map f xs) ∙ omega (arith, sized x, length_joined xs)
+  length_joined (x ∷ xs) = length-append (written x) (flat_map written xs) ∙ omega (arith, laws.sized x, length_joined xs)
 
-  module _ (out : List ℕ) (at : ℕ) (xs : List X) where
-    -- what the buffer holds after the first i records
-    abbrev pub pasted : ℕ → List ℕ
-    pasted i = paste out at (flat_map f (take i xs)) (size * i)
-
-    length_front : (i : ℕ) → i ≤ length xs → size * i ≡ length (flat_map f (take i xs))
-    length_front i l = let e : length (take i xs) ≡ i = length-take i xs ∙ omega arith in sym (length_joined (take i xs) ∙ ap (λ n. size * n) e)
-
-    pub pasted_none : out ≡ pasted 0
-    pasted_none = let z : 0 ≡ size * 0 = omega arith in paste_none out at [] ∙ ap (paste out at []) z
-
-    pub pasted_more : (d : X) (i : ℕ) → i < length xs → at ≤ length out → (p : ℕ) (bytes before after : List ℕ) →
-        p ≡ at + size * i → bytes ≡ f (get_or xs i d) → before ≡ pasted i → after ≡ paste before p bytes (length bytes) → after ≡ pasted (i + 1)
-    pasted_more d i l room p bytes before after place e b h =
-        let s = flat_map f (take i xs) in
-        let t = f (get_or xs i d) in
-        let more : s ++ t ≡ flat_map f (take (i + 1) xs) = flat_map_more f [] (take i xs) (get_or xs i d) ∙ ap (flat_map f) (sym (take_more xs i d l)) in
-        let n : length bytes ≡ size = ap length e ∙ sized (get_or xs i d) in
-        let k : size * i + size ≡ size * (i + 1) = omega arith in
-        let step : paste (pasted i) (at + size * i) t size ≡ paste out at (s ++ t) (size * i + size) =
-        paste-paste out at s t (size * i) size (length_front i (omega arith)) (sym (sized (get_or xs i d))) room in
-        rw (h, place, n, e, b, step, more, k) refl
-
-    pub pasted_all : (i : ℕ) → i ≡ length xs → pasted i ≡ paste out at (flat_map f xs) (size * length xs)
-    pasted_all i e = rw (e, take_all (length xs) xs (omega arith)) refl
+  -- the record of value i is written behind those of the values before it
+  pub record_written : (out : List ℕ) (start : ℕ) (xs : List X) (i : ℕ) (x : X) → i < length xs → x ≡ get_or xs i x → start ≤ length out →
+      (place : ℕ) (bytes before after : List ℕ) → place ≡ start + size * i → bytes ≡ written x → before ≡ overwritten out start (flat_map written (take i xs)) →
+      after ≡ overwritten before place bytes → after ≡ overwritten out start (flat_map written (take (i + 1) xs))
+  record_written out start xs i x l is room place bytes before after p b h e =
+      let s = flat_map written (take i xs) in
+      let few : length (take i xs) ≡ i = length-take i xs ∙ omega arith in
+      let n : length s ≡ size * i = length_joined (take i xs) ∙ ap (λ k. size * k) few in
+      let at_end : place ≡ start + length s = p ∙ ap (λ k. start + k) (sym n) in
+      let more : s ++ written x ≡ flat_map written (take (i + 1) xs) =
+      flat_map_more written [] (take i xs) x ∙ ap (flat_map written) (sym (take_more xs i x l ∙ ap (λ y. take i xs ++ y ∷ []) (sym is))) in
+      rw (e, h, at_end, b, overwritten_more out start s (written x) room, more) refl

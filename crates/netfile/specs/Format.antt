@@ -68,18 +68,18 @@ abbrev pub node_record : ℕ → List ℕ
 node_record w = bytes_of w
 
 -- what the record of a pipe says, its ends and its cost, and the record by the pipe
-abbrev pub pipe_from : List ℕ → Pipe
+abbrev pub pipe_from : List ℕ → Pipe ℕ
 pipe_from bytes = record {
   first = slice_index bytes 0;
   second = slice_index bytes 1;
   cost = number_of (slice_index bytes 2) (slice_index bytes 3);
 }
 
-abbrev pub pipe_record : Pipe → List ℕ
+abbrev pub pipe_record : Pipe ℕ → List ℕ
 pipe_record p = p.first ∷ p.second ∷ bytes_of p.cost
 
 -- the network of nodes with these weights and of these pipes
-abbrev pub net_of : List ℕ → List Pipe → Net
+abbrev pub net_of : List ℕ → List (Pipe ℕ) → Net
 net_of ws ps = record { weights = ws; pipes = ps }
 
 -- the eight leading bytes of a file of n nodes and m pipes

@@ -1,4 +1,5 @@
 pub mod Format
+pub mod Records
 pub mod Meaning
 pub mod Answers
 pub mod Laws

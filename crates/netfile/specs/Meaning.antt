@@ -1,6 +1,6 @@
 -- What a list of bytes means as a network file: a network, or the fault for which it is refused.
 -- Assumes nothing.
-use Rattle.std.specs.Prelude.{ℕ, ◌+◌, min, Bool, cond, not, ◌&&◌, ◌||◌, List, [], ◌∷◌, map, length, drop, Some, None, Option, Result, ◌==◌, nat_lt, slice_index}
+use Rattle.std.specs.Prelude.{ℕ, ◌+◌, min, Bool, if◌then◌else◌, not, ◌&&◌, ◌||◌, List, [], ◌∷◌, map, length, drop, Some, None, Option, Result, ◌==◌, nat_lt, slice_index}
 use Rattle.std.specs.Simd.{first_chunks}
 use Rattle.faults.specs.Faults.{file_fault}
 use Rattle.faults.specs.declared.fault.Fault.{Fault}
@@ -34,6 +34,10 @@ nodes_fault records = first_fault (λ r. weight_fault (weight_from r)) node_size
 abbrev pub pipes_fault : ℕ → List (List ℕ) → Option Fault
 pipes_fault n records = first_fault (λ r. pipe_fault n (pipe_from r)) pipe_size (pipes_place n) records
 
+-- the first fault of the records, of the nodes and then of the pipes
+abbrev pub records_fault : List (List ℕ) → List (List ℕ) → Option Fault
+records_fault nodes pipes = or_else (nodes_fault nodes) (pipes_fault (length nodes) pipes)
+
 -- the 16-bit number whose high byte stands at this place
 abbrev pub number_at : List ℕ → ℕ → ℕ
 number_at file place = number_of (slice_index file place) (slice_index file (place + 1))
@@ -49,7 +53,7 @@ module _ (file : List ℕ) where
 
   -- the first of bytes 0 to 2 that differs, or else the file's length
   abbrev pub mark_place : ℕ
-  mark_place = cond (differs 0) 0 (cond (differs 1) 1 (cond (differs 2) 2 (length file)))
+  mark_place = if differs 0 then 0 else (if differs 1 then 1 else (if differs 2 then 2 else length file))
 
   abbrev pub node_count : ℕ
   node_count = slice_index file node_count_place

@@ -1,10 +1,13 @@
 // The leading bytes of a file, and its records behind them.
 ghost use Rattle.std.specs.Prelude.{◌≡◌, ◌≤◌, map, length, IfOk};
 ghost use Rattle.std.specs.Result.{result_err};
+ghost use Rattle.faults.specs.Faults.{file_fault};
 ghost use Rattle.network.specs.Limits.{max_nodes, max_pipes};
-ghost use Rattle.netfile.specs.Format.{file_of, file_size, net_of, node_place, pipe_from, pipe_place, weight_from};
-ghost use Rattle.netfile.specs.Meaning.{header_fault, mark_place, node_count, node_records, pipe_records};
+ghost use Rattle.netfile.specs.Format.{file_of, net_of, pipe_from, weight_from};
+ghost use Rattle.netfile.specs.Meaning.{header_fault, mark_place, node_records, pipe_records};
 
+use crate::counts::Counts;
+use crate::record::{NODE_SIZE, PIPE_SIZE};
 use faults::fault::Fault;
 use faults::layer::Layer;
 use faults::refusal::Refusal;
@@ -19,45 +22,27 @@ const NODE_COUNT_PLACE: usize = 5;
 
 const PIPE_COUNT_PLACE: usize = 6;
 
-// How many bytes come before the records, and how many the record of a node and of a pipe has.
-const HEADER_SIZE: usize = 8;
+// How many bytes come before the records.
+pub(crate) const HEADER_SIZE: usize = 8;
 
-const NODE_SIZE: usize = 2;
-
-const PIPE_SIZE: usize = 4;
-
-// The records of a file, those of the nodes and those of the pipes.
+// The records of a file, those of the nodes and those of the pipes. There are no more than a network may have.
 #[derive(Clone, Copy)]
 pub(crate) struct Records<'a> {
-    pub(crate) nodes: &'a [[u8; 2]],
-    pub(crate) pipes: &'a [[u8; 4]],
+    pub(crate) nodes: &'a [[u8; NODE_SIZE]],
+    pub(crate) pipes: &'a [[u8; PIPE_SIZE]],
+    ghost few_nodes: { length nodes.now ≤ max_nodes },
+    ghost few_pipes: { length pipes.now ≤ max_pipes },
 }
 
-// Where the record of this node begins.
-pub(crate) fn node_place(node: usize) -> usize
-    requires { node ≤ max_nodes }
-    ensures { result ≡ node_place node }
+// The fault of a file at this place.
+pub(crate) fn file_fault(refusal: Refusal, place: usize) -> Fault
+    ensures { result ≡ file_fault refusal place }
 {
-    HEADER_SIZE + NODE_SIZE * node
-}
-
-// Where the record of this pipe begins, behind those of so many nodes.
-pub(crate) fn pipe_place(nodes: usize, pipe: usize) -> usize
-    requires { (nodes ≤ max_nodes) × (pipe ≤ max_pipes) }
-    ensures { result ≡ pipe_place nodes pipe }
-{
-    HEADER_SIZE + NODE_SIZE * nodes + PIPE_SIZE * pipe
-}
-
-// How long a file of so many nodes and pipes is: it ends where one more pipe would begin.
-pub(crate) fn file_size(nodes: usize, pipes: usize) -> usize
-    requires { (nodes ≤ max_nodes) × (pipes ≤ max_pipes) }
-    ensures { result ≡ file_size nodes pipes }
-{
-    pipe_place(nodes, pipes)
+    Fault::of(Layer::File, refusal).at(place)
 }
 
 // The first of bytes 0 to 2 that is not the mark's, or else the file's length.
+// (By patterns, since they show the cases one by one; the position in a zip with the mark is no plainer.)
 fn mark_place(file: &[u8]) -> usize
     ensures { result ≡ mark_place file.now }
 {
@@ -69,35 +54,35 @@ fn mark_place(file: &[u8]) -> usize
     }
 }
 
-// Tests the leading bytes and the length, and cuts the rest into records. What they say has this file.
-pub(crate) fn open(file: &[u8]) -> Result<Records<'_>, Fault>
-    ensures fault { result_err result ≡ header_fault file.now }
-    ensures nodes { IfOk result (λ records. records.nodes.now ≡ node_records file.now) }
-    ensures pipes { IfOk result (λ records. records.pipes.now ≡ pipe_records file.now) }
-    ensures node_count { IfOk result (λ records. (length records.nodes.now ≡ node_count file.now) × (length records.nodes.now ≤ max_nodes)) }
-    ensures pipe_count { IfOk result (λ records. length records.pipes.now ≤ max_pipes) }
-    ensures written { IfOk result (λ records. file_of (net_of (map weight_from records.nodes.now) (map pipe_from records.pipes.now)) ≡ file.now) }
-{
-    let [b'D', b'Z', b'N', v1, v0, nodes, p1, p0, records @ ..] = file else {
-        return Err(Fault::of(Layer::File, Refusal::NotANetworkFile).at(mark_place(file)));
-    };
-    if u16::from_be_bytes([*v1, *v0]) != VERSION {
-        return Err(Fault::of(Layer::File, Refusal::UnknownVersion).at(VERSION_PLACE));
+impl<'a> Records<'a> {
+    // Tests the leading bytes and the length, and cuts the rest into records. What they say has this file.
+    pub(crate) fn open(file: &'a [u8]) -> Result<Records<'a>, Fault>
+        ensures fault { result_err result ≡ header_fault file.now }
+        ensures nodes { IfOk result (λ records. records.nodes.now ≡ node_records file.now) }
+        ensures pipes { IfOk result (λ records. records.pipes.now ≡ pipe_records file.now) }
+        ensures written { IfOk result (λ records. file_of (net_of (map weight_from records.nodes.now) (map pipe_from records.pipes.now)) ≡ file.now) }
+    {
+        let [b'D', b'Z', b'N', v1, v0, nodes, p1, p0, records @ ..] = file else {
+            return Err(file_fault(Refusal::NotANetworkFile, mark_place(file)));
+        };
+        if u16::from_be_bytes([*v1, *v0]) != VERSION {
+            return Err(file_fault(Refusal::UnknownVersion, VERSION_PLACE));
+        }
+        let nodes = usize::from(*nodes);
+        if nodes > MAX_NODES {
+            return Err(file_fault(Refusal::TooManyNodesOrPipes, NODE_COUNT_PLACE));
+        }
+        let pipes = usize::from(u16::from_be_bytes([*p1, *p0]));
+        if pipes > MAX_PIPES {
+            return Err(file_fault(Refusal::TooManyNodesOrPipes, PIPE_COUNT_PLACE));
+        }
+        let size = Counts { nodes, pipes }.file_size();
+        if file.len() != size {
+            return Err(file_fault(Refusal::WrongFileLength, size.min(file.len())));
+        }
+        let (nodes, pipes) = records.split_at(NODE_SIZE * nodes);
+        let (nodes, _) = nodes.as_chunks();
+        let (pipes, _) = pipes.as_chunks();
+        Ok(Records { nodes, pipes })
     }
-    let nodes = usize::from(*nodes);
-    if nodes > MAX_NODES {
-        return Err(Fault::of(Layer::File, Refusal::TooManyNodesOrPipes).at(NODE_COUNT_PLACE));
-    }
-    let pipes = usize::from(u16::from_be_bytes([*p1, *p0]));
-    if pipes > MAX_PIPES {
-        return Err(Fault::of(Layer::File, Refusal::TooManyNodesOrPipes).at(PIPE_COUNT_PLACE));
-    }
-    let size = file_size(nodes, pipes);
-    if file.len() != size {
-        return Err(Fault::of(Layer::File, Refusal::WrongFileLength).at(size.min(file.len())));
-    }
-    let (nodes, pipes) = records.split_at(NODE_SIZE * nodes);
-    let (nodes, _) = nodes.as_chunks();
-    let (pipes, _) = pipes.as_chunks();
-    Ok(Records { nodes, pipes })
 }

@@ -3,6 +3,7 @@ ghost use Rattle.netfile.specs.Laws.{AcceptedExactly, AcceptedIsWrittenBack, Fir
 ghost use Rattle.netfile.specs.Worked.{Worked};
 
 // A network written to a file loads as itself, and an accepted file is written back byte by byte.
+#[tactic(auto, using(crate::proofs::Written::written_loads_as_itself, crate::proofs::Accepted::accepted_is_written_back))]
 pub fn round_trips()
     ensures loads { WrittenLoadsAsItself }
     ensures written { AcceptedIsWrittenBack }
@@ -21,6 +22,7 @@ pub fn refused_records()
 {}
 
 // The definitions give the files worked by hand.
+#[tactic(auto, unfolding(crate::specs::Format::file_of, crate::specs::Meaning::first_fault))]
 pub fn worked_files()
     ensures { Worked }
 {}

@@ -1,87 +1,80 @@
 // Records tested, and made into a network.
-ghost use Rattle.std.specs.Prelude.{◌≡◌, ◌≤◌, [], map, length, None};
-ghost use Rattle.network.specs.Limits.{max_nodes, max_pipes};
-ghost use Rattle.network.specs.Net.{count, empty};
+ghost use Rattle.std.specs.Prelude.{◌≡◌, ◌+◌, ◌*◌, ◌^◌, ◌<◌, map, fold, length, None};
+ghost use Rattle.network.specs.Edits.{edited};
+ghost use Rattle.network.specs.Net.{empty};
 ghost use Rattle.network.specs.Refusals.{answer};
 ghost use Rattle.network.specs.View.{view};
+ghost use Rattle.netfile.specs.Answers.{AllAccepted};
 ghost use Rattle.netfile.specs.Format.{net_of, pipe_from, weight_from};
-ghost use Rattle.netfile.specs.Meaning.{nodes_fault, pipes_fault};
+ghost use Rattle.netfile.specs.Meaning.{at_place, first_fault, records_fault};
 
-use crate::header::{node_place, pipe_place};
+use crate::counts::Counts;
+use crate::header::{HEADER_SIZE, Records, file_fault};
+use crate::record::{NODE_SIZE, PIPE_SIZE, Record, record_place};
 use faults::fault::Fault;
-use faults::layer::Layer;
-use network::limits::{check_pipe, check_weight};
 use network::network::Network;
 use network::pipe::Pipe;
 
-// The weight that a node's record holds.
-fn weight_from(bytes: [u8; 2]) -> u32
-    ensures { result ≡ weight_from bytes }
+// Refuses a record that does not fit a network of so many nodes. It begins at this place.
+fn check_record<const SIZE: usize, R: Record<SIZE>>(
+    bytes: &[u8; SIZE],
+    place: usize,
+    nodes: usize,
+) -> Result<(), Fault>
+    ensures { result ≡ answer (at_place place (R.fault nodes (R.read bytes.now))) tt }
 {
-    u32::from(u16::from_be_bytes(bytes))
+    R::from_bytes(bytes)
+        .check(nodes)
+        .map_err(|fault| file_fault(fault.refusal, place))
 }
 
-// The pipe that a record holds.
-fn pipe_from(bytes: [u8; 4]) -> Pipe
-    ensures { result ≡ pipe_from bytes }
+// Refuses the first record that does not fit a network of so many nodes. The first of all begins at this place.
+#[tactic(auto, using(crate::proofs::Scanning::scanned_more, crate::proofs::Scanning::scanned_ok))]
+fn check_records<const SIZE: usize, R: Record<SIZE>>(
+    records: &[[u8; SIZE]],
+    start: usize,
+    nodes: usize,
+) -> Result<(), Fault>
+    requires { start + SIZE * length records.now < 2 ^ 32 }
+    ensures { result ≡ answer (first_fault (λ bytes. R.fault nodes (R.read bytes)) SIZE start records.now) tt }
 {
-    let [first, second, c1, c0] = bytes;
-    Pipe {
-        first: usize::from(first),
-        second: usize::from(second),
-        cost: u32::from(u16::from_be_bytes([c1, c0])),
-    }
-}
-
-// Refuses the first record of a node whose weight is outside its limits.
-pub(crate) fn check_nodes(records: &[[u8; 2]]) -> Result<(), Fault>
-    requires { length records.now ≤ max_nodes }
-    ensures { result ≡ answer (nodes_fault records.now) Prim.tt }
-{
-    for (v, record) in records.iter().enumerate() {
-        if let Err(fault) = check_weight(weight_from(*record)) {
-            return Err(Fault::of(Layer::File, fault.refusal).at(node_place(v)));
-        }
+    for (index, record) in records.iter().enumerate() {
+        check_record::<SIZE, R>(record, record_place::<SIZE>(start, index), nodes)?;
     }
     Ok(())
 }
 
-// Refuses the first record of a pipe that does not fit, where there are so many nodes.
-pub(crate) fn check_pipes(nodes: usize, records: &[[u8; 4]]) -> Result<(), Fault>
-    requires nodes { nodes ≤ max_nodes }
-    requires pipes { length records.now ≤ max_pipes }
-    ensures { result ≡ answer (pipes_fault nodes records.now) Prim.tt }
-{
-    for (p, record) in records.iter().enumerate() {
-        if let Err(fault) = check_pipe(nodes, pipe_from(*record)) {
-            return Err(Fault::of(Layer::File, fault.refusal).at(pipe_place(nodes, p)));
-        }
-    }
-    Ok(())
-}
-
-// Adds a node for each record to a network without nodes. The records are tested, so that no node is refused.
-pub(crate) fn add_nodes(network: &mut Network, records: &[[u8; 2]])
-    requires few { length records.now ≤ max_nodes }
-    requires tested { nodes_fault records.now ≡ None }
-    requires blank { view network.old ≡ empty }
-    ensures after { view network.new ≡ net_of (map weight_from records.now) [] }
-    ensures count { count (view network.new) ≡ length records.now }
+// Adds what each record says to a network that refuses none of it.
+fn add_records<const SIZE: usize, R: Record<SIZE>>(records: &[[u8; SIZE]], network: &mut Network)
+    requires { AllAccepted (view network.old) (map R.edit (map R.read records.now)) }
+    ensures { view network.new ≡ fold edited (view network.old) (map R.edit (map R.read records.now)) }
 {
     for record in records {
-        network.add_node(weight_from(*record)).unwrap();
+        R::from_bytes(record).add_to(network);
     }
 }
 
-// Lays a pipe for each record in a network without pipes. The records are tested, so that no pipe is refused.
-pub(crate) fn join_pipes(network: &mut Network, records: &[[u8; 4]])
-    requires few { length records.now ≤ max_pipes }
-    requires tested { pipes_fault (count (view network.old)) records.now ≡ None }
-    requires blank { (view network.old).pipes ≡ [] }
-    ensures { view network.new ≡ net_of (view network.old).weights (map pipe_from records.now) }
-{
-    for record in records {
-        let pipe = pipe_from(*record);
-        network.join(pipe.first, pipe.second, pipe.cost).unwrap();
+impl Records<'_> {
+    // Refuses the first record that does not fit, of the nodes and then of the pipes.
+    pub(crate) fn check(&self) -> Result<(), Fault>
+        ensures { result ≡ answer (records_fault self.now.nodes.now self.now.pipes.now) tt }
+    {
+        let counts = Counts {
+            nodes: self.nodes.len(),
+            pipes: self.pipes.len(),
+        };
+        check_records::<NODE_SIZE, u32>(self.nodes, HEADER_SIZE, counts.nodes)?;
+        check_records::<PIPE_SIZE, Pipe<u32>>(self.pipes, counts.pipes_place(), counts.nodes)
+    }
+
+    // Makes a network without nodes the one that the records say. They are tested, so that none is refused.
+    #[tactic(auto, using(crate::proofs::Filling::nodes_accepted, crate::proofs::Filling::weights_added, crate::proofs::Filling::pipes_accepted_behind, crate::proofs::Filling::pipes_added))]
+    pub(crate) fn add_to(&self, network: &mut Network)
+        requires tested { records_fault self.now.nodes.now self.now.pipes.now ≡ None }
+        requires blank { view network.old ≡ empty }
+        ensures { view network.new ≡ net_of (map weight_from self.now.nodes.now) (map pipe_from self.now.pipes.now) }
+    {
+        add_records::<NODE_SIZE, u32>(self.nodes, network);
+        add_records::<PIPE_SIZE, Pipe<u32>>(self.pipes, network);
     }
 }

@@ -53,14 +53,14 @@ weight_fits w e = within_limits _ _ w (passed _ _ _ e).0
 pub weight_faultless : (w : ℕ) → WeightFits w → weight_fault w ≡ None
 weight_faultless w f = passes _ _ _ (not_outside _ _ w f.0 f.1) refl
 
-pub pipe_fits : (n : ℕ) (p : Pipe) → pipe_fault n p ≡ None → PipeFits n p
+pub pipe_fits : (n : ℕ) (p : Pipe ℕ) → pipe_fault n p ≡ None → PipeFits n p
 pipe_fits n p e =
     let (ends, f) = passed _ _ _ e in
     let (a, b, apart) = good_ends n p.first p.second ends in
     let (low, high) = within_limits _ _ p.cost (passed _ _ _ f).0 in
     (a, b, apart, low, high)
 
-pub pipe_faultless : (n : ℕ) (p : Pipe) → PipeFits n p → pipe_fault n p ≡ None
+pub pipe_faultless : (n : ℕ) (p : Pipe ℕ) → PipeFits n p → pipe_fault n p ≡ None
 pipe_faultless n p f =
     passes _ _ _ (not_bad n p.first p.second f.0 f.1 f.2) (passes _ _ _ (not_outside _ _ p.cost f.3 f.4) refl)
 
@@ -79,7 +79,7 @@ accepted_within_limits net (weigh v w) h = (
 )
 accepted_within_limits net (join a b c) h =
     let n = length net.weights in
-    let p : Pipe = record { first = a; second = b; cost = c } in (
+    let p : Pipe ℕ = record { first = a; second = b; cost = c } in (
       (λ e. let (room, f) = passed _ _ _ e in (tt, join_keeps _ _ _ _ refl h (leb-false _ _ room) (pipe_fits n p f))),
       (λ k. let (_, l) = k in
           let f = pushed_fits (PipeFits n) no_pipe net.pipes p l.3 in

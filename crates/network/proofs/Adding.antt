@@ -1,15 +1,22 @@
--- Sums over the nodes, as a loop makes them.
+-- Sums over the nodes and over the pipes, as the code makes them.
 -- Assumes nothing.
-use Rattle.std.proofs.Common.{◌≡◌, ℕ, ◌+◌, ◌*◌, ◌≤◌, Bool, false, ◌&&◌, List, length, get_or, refl, subst, add-one, arith}
-use Rattle.network.specs.Limits.{max_nodes, max_weight, WeightFits}
+use Rattle.std.proofs.Common.{◌≡◌, ℕ, ◌+◌, ◌*◌, ◌^◌, ◌<◌, ◌≤◌, Bool, List, length, get_or, sum_by, refl, sym, add-one, mul-le-mul_right, arith}
+use Rattle.std.specs.List.{All}
+use Rattle.std.proofs.lemmas.List.Elements.{All-from_get_or}
+use Rattle.std.proofs.lemmas.List.Sums.{sum_by-le}
+use Rattle.network.specs.Limits.{no_pipe, max_weight, max_cost, PipeFits, WeightsFit, WithinLimits}
 use Rattle.network.specs.declared.pipe.Pipe.{Pipe}
-use Rattle.network.specs.Net.{Nodes, when, below, weight_in, adds, crosses}
+use Rattle.network.specs.Net.{Decides, Net, Nodes, count, when, below, weight_in, adds, crosses}
 
 when_le : (b : Bool) (x : ℕ) → when b x ≤ x
 when_le b x = grind arith
 
-pub adds_le : (X : Nodes) (p : Pipe) → adds X p ≤ p.cost
-adds_le X p = when_le (crosses X p) p.cost
+-- the summed cost of the pipes that cross a set fits a number of 32 bits
+pub across_fits : (net : Net) (X : Nodes) → WithinLimits net → sum_by (adds X) net.pipes < 2 ^ 32
+across_fits net X l =
+    let least : (p : Pipe ℕ) → PipeFits (count net) p → adds X p ≤ max_cost = λ p f. omega (arith, f.4, when_le (crosses X p) p.cost) in
+    let each : All (λ p. adds X p ≤ max_cost) net.pipes = All-from_get_or (λ p. adds X p ≤ max_cost) net.pipes no_pipe (λ k h. least _ (l.3 k h)) in
+    omega (arith, sum_by-le (adds X) max_cost net.pipes each, mul-le-mul_right max_cost l.1)
 
 below_none : (f : ℕ → ℕ) → below 0 f ≡ 0
 unfolding below
@@ -19,32 +26,24 @@ below_more : (f : ℕ → ℕ) (n : ℕ) → below (n + 1) f ≡ below n f + f n
 unfolding below
 below_more f n = rw add-one
 
-at_most_once : (p q : Bool) (w : ℕ) → (p && q) ≡ false → when p w + when q w ≤ w
-at_most_once p q w e = grind arith
+-- the weight, below n, of the nodes that a test with these answers chooses
+pub record Tally (answers : ℕ → Bool → Type 0) (ws : List ℕ) (n total : ℕ) : Type 0 where
+  pub exact : (X : Nodes) → Decides answers (length ws) X → total ≡ below n (λ v. when (X v) (get_or ws v 0))
+  pub bound : total ≤ n * max_weight
 
--- x and y are the weights that the sets X and Y, which share no node, have below n
-pub record Tally (X Y : Nodes) (ws : List ℕ) (n x y : ℕ) : Type 0 where
-  pub first : x ≡ below n (λ v. when (X v) (get_or ws v 0))
-  pub second : y ≡ below n (λ v. when (Y v) (get_or ws v 0))
-  pub bound : x + y ≤ n * max_weight
+module _ (answers : ℕ → Bool → Type 0) (ws : List ℕ) where
+  pub tally_none : Tally answers ws 0 0
+  tally_none = record { exact = λ X d. rw below_none; bound = omega arith }
 
-module _ (X Y : Nodes) (ws : List ℕ) where
-  pub tally_none : Tally X Y ws 0 0 0
-  tally_none = record { first = rw below_none; second = rw below_none; bound = omega arith }
-
-  -- one node more: p and q say whether it is in X and in Y
-  pub tally_more : (n x y x' y' : ℕ) (p q : Bool) → X n ≡ p → Y n ≡ q → (p && q) ≡ false → WeightFits (get_or ws n 0)
-      → x' ≡ x + when p (get_or ws n 0) → y' ≡ y + when q (get_or ws n 0) → Tally X Y ws n x y → Tally X Y ws (n + 1) x' y'
-  tally_more n x y x' y' p q d e apart f g h t = record {
-    first = rw (below_more, d) (omega arith);
-    second = rw (below_more, e) (omega arith);
-    bound = omega (arith, at_most_once p q (get_or ws n 0) apart);
+  -- one node more, of which the test answers b
+  pub tally_more : (n total more : ℕ) (b : Bool) → n < length ws → WeightsFit ws → answers n b → more ≡ total + when b (get_or ws n 0)
+      → Tally answers ws n total → Tally answers ws (n + 1) more
+  tally_more n total more b here fits a e t = record {
+    exact = λ X d. rw (below_more, sym (d n b here a)) (omega (arith, t.exact X d));
+    bound = omega (arith, fits n here, when_le b (get_or ws n 0), t.bound);
   }
 
-  -- the whole sums, at the end of the loop
-  pub tally_all : (n x y : ℕ) → n ≡ length ws → length ws ≤ max_nodes → Tally X Y ws n x y
-      → (x ≡ weight_in ws X) × (y ≡ weight_in ws Y) × (x + y ≤ max_nodes * max_weight)
+  -- the whole weight, at the end of the loop
+  pub tally_all : (n total : ℕ) → n ≡ length ws → Tally answers ws n total → (X : Nodes) → Decides answers (length ws) X → total ≡ weight_in ws X
   unfolding weight_in
-  tally_all n x y e few t =
-      let whole = subst (λ (k : ℕ). Tally X Y ws k x y) e t in
-      (whole.first, whole.second, omega (arith, whole.bound))
+  tally_all n total e t X d = rw (sym e) (t.exact X d)

@@ -18,10 +18,10 @@ both_turned true false = refl
 both_turned false true = refl
 both_turned false false = refl
 
-adds_same : (X : Nodes) (p : Pipe) → adds (complement X) p ≡ adds X p
+adds_same : (X : Nodes) (p : Pipe ℕ) → adds (complement X) p ≡ adds X p
 adds_same X p = ap (λ (b : Bool). when b p.cost) (both_turned (X p.first) (X p.second))
 
-across_same : (X : Nodes) (ps : List Pipe) → sum_by (adds (complement X)) ps ≡ sum_by (adds X) ps
+across_same : (X : Nodes) (ps : List (Pipe ℕ)) → sum_by (adds (complement X)) ps ≡ sum_by (adds X) ps
 across_same X [] = refl
 across_same X (p ∷ ps) = omega (arith, across_same X ps, adds_same X p, sum_by-cons (adds (complement X)) p ps, sum_by-cons (adds X) p ps)
 

@@ -39,26 +39,26 @@ module _ {X : Type 0} (P : X → Type 0) (d : X) where
   written_fits xs i x l h = subst P (get_or-set_same xs i x d l) (h i (omega (arith, length-set xs i x)))
 
 -- with more nodes each pipe still fits
-pipes_more : (m n : ℕ) (ps : List Pipe) → m ≤ n → PipesFit m ps → PipesFit n ps
+pipes_more : (m n : ℕ) (ps : List (Pipe ℕ)) → m ≤ n → PipesFit m ps → PipesFit n ps
 pipes_more m n ps le h k l = let f = h k l in (omega arith, omega arith, f.2, f.3, f.4)
 
 -- each edit of the lists keeps the limits
-pub add_keeps : (ws vs : List ℕ) (ps : List Pipe) (w : ℕ) → vs ≡ ws ++ w ∷ [] → Limits ws ps → length ws < max_nodes → WeightFits w → Limits vs ps
+pub add_keeps : (ws vs : List ℕ) (ps : List (Pipe ℕ)) (w : ℕ) → vs ≡ ws ++ w ∷ [] → Limits ws ps → length ws < max_nodes → WeightFits w → Limits vs ps
 add_keeps ws vs ps w e h room f =
     let n : length (ws ++ w ∷ []) ≡ length ws + 1 = length-append ws (w ∷ []) in
     rw e (omega arith, h.1, fits_push WeightFits 0 ws w h.2 f, pipes_more (length ws) (length (ws ++ w ∷ [])) ps (omega arith) h.3)
 
-pub weigh_keeps : (ws : List ℕ) (ps : List Pipe) (v w : ℕ) → Limits ws ps → WeightFits w → Limits (set ws v w) ps
+pub weigh_keeps : (ws : List ℕ) (ps : List (Pipe ℕ)) (v w : ℕ) → Limits ws ps → WeightFits w → Limits (set ws v w) ps
 weigh_keeps ws ps v w h f =
     let n : length (set ws v w) ≡ length ws = length-set ws v w in
     (omega arith, h.1, fits_set WeightFits 0 ws v w h.2 f, pipes_more (length ws) (length (set ws v w)) ps (omega arith) h.3)
 
-pub join_keeps : (ws : List ℕ) (ps qs : List Pipe) (p : Pipe) → qs ≡ ps ++ p ∷ [] → Limits ws ps → length ps < max_pipes → PipeFits (length ws) p → Limits ws qs
+pub join_keeps : (ws : List ℕ) (ps qs : List (Pipe ℕ)) (p : Pipe ℕ) → qs ≡ ps ++ p ∷ [] → Limits ws ps → length ps < max_pipes → PipeFits (length ws) p → Limits ws qs
 join_keeps ws ps qs p e h room f =
     let n : length (ps ++ p ∷ []) ≡ length ps + 1 = length-append ps (p ∷ []) in
     rw e (h.0, omega arith, h.2, fits_push (PipeFits (length ws)) no_pipe ps p h.3 f)
 
-pub remove_keeps : (ws : List ℕ) (ps qs : List Pipe) (i : ℕ) → qs ≡ remove ps i → Limits ws ps → Limits ws qs
+pub remove_keeps : (ws : List ℕ) (ps qs : List (Pipe ℕ)) (i : ℕ) → qs ≡ remove ps i → Limits ws ps → Limits ws qs
 remove_keeps ws ps qs i e h =
     let n : length (take i ps ++ drop (suc i) ps) ≤ length ps = simp (length-append, length-take, length-drop) (omega arith) in
     rw e (h.0, omega arith, h.2, fits_removed (PipeFits (length ws)) no_pipe ps i h.3)

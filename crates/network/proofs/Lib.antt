@@ -1,6 +1,7 @@
 pub mod Keeps
+pub mod GoodMarks
 pub mod Adding
-pub mod Signing
+pub mod Products
 pub mod Weights
 pub mod Denominators
 pub mod Ordering

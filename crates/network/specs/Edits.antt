@@ -28,7 +28,7 @@ abbrev pub weight_fault : ℕ → Option Fault
 weight_fault w = refuse_if (outside_limits min_weight max_weight w) WeightOutOfRange None
 
 -- the fault of a pipe between nodes of the n that there are, if it has one
-abbrev pub pipe_fault : ℕ → Pipe → Option Fault
+abbrev pub pipe_fault : ℕ → Pipe ℕ → Option Fault
 pipe_fault n p =
     refuse_if (bad_ends n p.first p.second) BadNodeOrPipe
     (refuse_if (outside_limits min_cost max_cost p.cost) CostOutOfRange None)

@@ -8,3 +8,4 @@ pub mod Edits
 pub mod Laws
 pub mod Worked
 pub mod View
+pub mod Sets

@@ -1,12 +1,12 @@
 -- A network as lists, sets of its nodes, and what a set weighs and costs.
 -- Assumes nothing.
-use Rattle.std.specs.Prelude.{ℕ, zero, suc, ◌+◌, min, Bool, true, false, cond, not, ◌&&◌, List, [], length, sum_by, ◌==◌, slice_index}
+use Rattle.std.specs.Prelude.{◌≡◌, ℕ, zero, suc, ◌+◌, ◌<◌, min, Bool, true, false, cond, not, ◌&&◌, List, [], length, sum_by, ◌==◌, slice_index}
 use Rattle.network.specs.declared.pipe.Pipe.{Pipe}
 
 -- node v weighs what stands at place v
 pub record Net : Type 0 where
   pub weights : List ℕ
-  pub pipes : List Pipe
+  pub pipes : List (Pipe ℕ)
 
 abbrev pub empty : Net
 empty = record { weights = []; pipes = [] }
@@ -22,6 +22,10 @@ Nodes = ℕ → Bool
 -- the set that marks stand for: for each node, 1 where it is in the set, else 0
 abbrev pub set_of : List ℕ → Nodes
 set_of marks v = slice_index marks v == 1
+
+-- what a test may answer of each of n nodes is whether the node is in X
+abbrev pub Decides : (ℕ → Bool → Type 0) → ℕ → Nodes → Type 0
+Decides answers n X = (v : ℕ) (b : Bool) → v < n → answers v b → b ≡ X v
 
 abbrev pub everywhere : Nodes
 everywhere v = true
@@ -51,11 +55,11 @@ exactly_one true y = not y
 exactly_one false y = y
 
 -- the pipe has exactly one end in X
-abbrev pub crosses : Nodes → Pipe → Bool
+abbrev pub crosses : Nodes → Pipe ℕ → Bool
 crosses X p = exactly_one (X p.first) (X p.second)
 
 -- what the pipe adds to the boundary cost of X
-abbrev pub adds : Nodes → Pipe → ℕ
+abbrev pub adds : Nodes → Pipe ℕ → ℕ
 adds X p = when (crosses X p) p.cost
 
 -- the weight of the nodes in X, where ws are the weights of all nodes
@@ -63,7 +67,7 @@ unfoldable pub weight_in : List ℕ → Nodes → ℕ
 weight_in ws X = below (length ws) (λ v. when (X v) (slice_index ws v))
 
 -- the summed cost of the pipes, of ps, with exactly one end in X
-unfoldable pub cost_across : List Pipe → Nodes → ℕ
+unfoldable pub cost_across : List (Pipe ℕ) → Nodes → ℕ
 cost_across ps X = sum_by (adds X) ps
 
 module _ (net : Net) where

@@ -9,7 +9,7 @@ use Rattle.network.specs.Edits.Edit.{add, join}
 use Rattle.network.specs.Net.{Net, empty, set_of}
 use Rattle.network.specs.Scores.{quotient, relative}
 
-abbrev pub pipe : ℕ → ℕ → ℕ → Pipe
+abbrev pub pipe : ℕ → ℕ → ℕ → Pipe ℕ
 pipe a b c = record { first = a; second = b; cost = c }
 
 -- two triangles of pipes that cost 3, joined by a pipe that costs 1

@@ -5,5 +5,5 @@ pub mod laws;
 pub mod limits;
 mod marks;
 pub mod network;
+mod node_set;
 pub mod pipe;
-mod sums;

@@ -1,30 +1,21 @@
-ghost use Rattle.std.specs.Prelude.{◌≡◌};
-ghost use Rattle.std.specs.List.{prefix_len};
+// The test of marks, and the fault of those that fail it.
+ghost use Rattle.std.specs.Prelude.{◌≡◌, not, position};
 ghost use Rattle.network.specs.Marks.{bad_marks, is_mark};
 
 use faults::fault::Fault;
 use faults::layer::Layer;
 use faults::refusal::Refusal;
 
-// How many marks from the front are 0 or 1.
-pub(crate) fn good_marks(marks: &[u8]) -> usize
-    ensures { result ≡ prefix_len is_mark marks.now }
+// The place of the first mark that is neither 0 nor 1, if there is one.
+pub(crate) fn first_bad_mark(marks: &[u8]) -> Option<usize>
+    ensures { result ≡ position (λ mark. not (is_mark mark)) marks.now }
 {
-    for (place, mark) in marks.iter().enumerate() {
-        if *mark > 1 {
-            return place;
-        }
-    }
-    marks.len()
+    marks.iter().position(|mark| *mark > 1)
 }
 
 // The fault of marks at this place.
 pub(crate) fn bad_marks(place: usize) -> Fault
     ensures { result ≡ bad_marks place }
 {
-    Fault {
-        refusal: Refusal::BadMarks,
-        layer: Layer::Board,
-        place,
-    }
+    Fault::of(Layer::Board, Refusal::BadMarks).at(place)
 }

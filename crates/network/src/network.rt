@@ -15,7 +15,7 @@ mod scores;
 #[derive(Drop)]
 pub struct Network {
     weights: Vec<u32>,
-    pipes: Vec<Pipe>,
+    pipes: Vec<Pipe<u32>>,
     ghost room: { (max_nodes ≤ vec_capacity weights) × (max_pipes ≤ vec_capacity pipes) },
     ghost limits: { Limits weights.items pipes.items },
 }

@@ -1,7 +1,8 @@
-// A pipe between two different nodes. Its cost is that of a meter chamber on it.
+// A pipe between two different nodes, and what it costs to cut it: in a water network that is the cost of a meter
+// chamber on the pipe.
 #[derive(Clone, Copy, PartialEq, Eq, Debug)]
-pub struct Pipe {
+pub struct Pipe<C> {
     pub first: usize,
     pub second: usize,
-    pub cost: u32,
+    pub cost: C,
 }

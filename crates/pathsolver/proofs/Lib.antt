@@ -2,4 +2,3 @@ pub mod Visiting
 pub mod Walking
 pub mod Seeking
 pub mod Sending
-pub mod Solving

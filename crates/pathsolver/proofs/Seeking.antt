@@ -5,12 +5,12 @@ use Rattle.std.proofs.ByRecursion.{All-push, All-weaker}
 use Rattle.std.specs.List.{AllByRecursion}
 use Rattle.residual.specs.declared.arcs.Arc.{Arc}
 use Rattle.residual.specs.declared.queue.Queue.{Queue}
-use Rattle.residual.specs.Arcs.{arc_at}
+use Rattle.residual.specs.Arcs.{Table, arc_at}
 use Rattle.residual.specs.Reach.{Blocked}
 use Rattle.residual.specs.Star.{latest}
 use Rattle.residual.specs.Waiting.{room, waiting}
-use Rattle.residual.proofs.Frontier.{count_room, grown_other}
-use Rattle.residual.proofs.Searching.{Among, Between, Popped, Queued, comes_to_end, first_under, fitted, goes_on, goes_past, sets_out, slot_left, turns_back, turns_to}
+use Rattle.residual.proofs.Frontier.{count_room, grown_here, grown_other}
+use Rattle.residual.proofs.Searching.{Among, Between, Gone, Popped, Queued, comes_to_end, first_under, fitted, goes_on, goes_past, sets_out, slot_for, slot_left, turns_back, turns_to}
 use Rattle.pathsolver.specs.declared.step.Step.{Step}
 use Rattle.pathsolver.specs.Onward.{onward}
 use Rattle.pathsolver.specs.Steps.{Found, Visits, visit_at, visited}
@@ -112,3 +112,48 @@ module _ {arcs : List Arc} {n source sink : ℕ} where
 
     pub ends : {q : Queue Step} → waiting q ≡ [] → Outside arcs n source sink visits q → Blocked arcs source sink
     ends e o = let r = comes_to_end vertex arcs e o.between in (visited visits, (r.start, o.goal, r.closed))
+
+-- a turn of the loop over the arcs of a step, whose arc k has the record a
+module _ {arcs : List Arc} {n source sink : ℕ} {visits : Visits} {q₀ q : Queue Step} {step : Step} {k : ℕ} {next later : Option ℕ} {a : Arc} (gone : Gone arcs next later k a)
+    (i : Inside arcs n source sink visits q₀ q step next) (table : Table arcs n)
+  where
+    inside_at : Inside arcs n source sink visits q₀ q step (Some k)
+    inside_at = subst (λ (o : Option ℕ). Inside arcs n source sink visits q₀ q step o) gone.was i
+
+    to_at : (arc_at arcs k).to < n
+    to_at = table.to k inside_at.among.frontier.next_is.0
+
+    pub ends_under : a.to < n
+    ends_under = subst (λ (b : Arc). b.to < n) (sym gone.arc) to_at
+
+    pub goes_by : (0 < a.remaining → visited visits a.to ≡ true) → Inside arcs n source sink visits q₀ q step later
+    goes_by h = passes later gone.after (subst (λ (b : Arc). 0 < b.remaining → visited visits b.to ≡ true) gone.arc h) inside_at
+
+    module _ (new : visited visits a.to ≡ false) where
+      new_at : visited visits (arc_at arcs k).to ≡ false
+      new_at = subst (λ (b : Arc). visited visits b.to ≡ false) gone.arc new
+
+      pub step_fits : step.distance + 1 < n
+      step_fits = distance_fits inside_at to_at new_at
+
+      pub finds_slot : q.tail < room q
+      finds_slot = slot_for vertex arcs gone i.among table (grown visits a.to step (omega (arith, ends_under, i.long)) new) new
+
+      module _ (pos : 0 < a.remaining) where
+        pos_at : 0 < (arc_at arcs k).remaining
+        pos_at = subst (λ (b : Arc). 0 < b.remaining) gone.arc pos
+
+        pub paths_to : Paths arcs n source (set visits a.to (Some (onward step k a)))
+        paths_to = subst (λ (b : Arc). Paths arcs n source (set visits b.to (Some (onward step k b)))) (sym gone.arc) (arrived inside_at to_at new_at pos_at)
+
+        pub found_at : a.to ≡ sink → Found (set visits a.to (Some (onward step k a))) sink (onward step k a)
+        found_at e =
+            subst (λ (b : Arc). Found (set visits b.to (Some (onward step k b))) sink (onward step k b)) (sym gone.arc)
+            (lands inside_at to_at new_at pos_at (sym (ap (λ (b : Arc). b.to) gone.arc) ∙ e))
+
+        pub goes_in : {q' : Queue Step} {r : Bool} → sink ≢ a.to → Queued q q' (onward step k a) r → Inside arcs n source sink (set visits a.to (Some (onward step k a))) q₀ q' step later
+        goes_in {q'} {r} =
+            subst (λ (b : Arc). sink ≢ b.to → Queued q q' (onward step k b) r → Inside arcs n source sink (set visits b.to (Some (onward step k b))) q₀ q' step later) (sym gone.arc)
+            (λ ne p.
+            passes later gone.after (λ _. grown_here (grown visits (arc_at arcs k).to (onward step k (arc_at arcs k)) (omega (arith, to_at, i.long)) new_at))
+            (visits_on inside_at to_at new_at pos_at ne p))

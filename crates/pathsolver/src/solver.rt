@@ -1,25 +1,51 @@
-// The path solver. This file has only the type, since a type with a ghost field imports every ghost use of its file.
-ghost use Rattle.std.specs.Prelude.{◌≡◌, ◌≤◌, vec_len, vec_capacity};
-ghost use Rattle.residual.specs.Laid.{max_arcs, max_vertices};
+ghost use Rattle.std.specs.Prelude.{◌≡◌, ◌≤◌, length, IfOk, None, vec_capacity};
+ghost use Rattle.mincut.specs.Solver.{cut_refusal, Solved};
+ghost use Rattle.mincut.specs.View.{flow_of};
+ghost use Rattle.residual.specs.Laid.{max_arcs};
 
-use crate::step::Step;
-use residual::arcs::Arc;
+use crate::paths::PathSearch;
+use faults::fault::Fault;
+use mincut::flow::FlowNetwork;
+use mincut::solver::MinCut;
+use residual::graph::ResidualGraph;
+use residual::marking::Marker;
+use std::alloc::{AllocError, Global};
 
-mod cuts;
-mod makes;
-
-// The memory of a solve, reserved once for the largest flow network, so that no call but `new` allocates.
+// The path solver: the residual graph, and the memory of the two searches in it.
 #[derive(Drop)]
 pub struct PathSolver {
-    arcs: Vec<Arc>,
-    heads: Vec<Option<usize>>,
-    nexts: Vec<Option<usize>>,
-    visits: Vec<Option<Step>>,
-    steps: Vec<Step>,
-    seen: Vec<bool>,
-    slots: Vec<usize>,
-    ghost table: { max_arcs ≤ vec_capacity arcs },
-    ghost indexed: { (vec_len heads ≡ max_vertices) × (vec_len nexts ≡ max_arcs) },
-    ghost searched: { (vec_len visits ≡ max_vertices) × (vec_len steps ≡ max_vertices) },
-    ghost marked: { (vec_len seen ≡ max_vertices) × (vec_len slots ≡ max_vertices) },
+    graph: ResidualGraph,
+    search: PathSearch,
+    marker: Marker,
+}
+
+impl PathSolver {
+    // A solver with the memory for every flow network within the limits, or an error where there is none.
+    pub fn new(heap: Global) -> Result<PathSolver, AllocError>
+        ensures { IfOk result (λ solver. max_arcs ≤ vec_capacity solver.graph.arcs) }
+    {
+        Ok(PathSolver {
+            graph: ResidualGraph::new(heap)?,
+            search: PathSearch::new(heap)?,
+            marker: Marker::new(heap)?,
+        })
+    }
+
+    // Solves a flow network that no solver refuses.
+    fn solve(&mut self, network: FlowNetwork<'_>, marks: &mut [u8]) -> u64
+        requires { cut_refusal (flow_of network) (length marks.old) ≡ None }
+        ensures { Solved (flow_of network.entry) marks.new result }
+    {
+        self.graph.lay(network);
+        let sent = self.search.send(&mut self.graph);
+        self.marker.mark(&self.graph, marks);
+        sent
+    }
+}
+
+impl MinCut for PathSolver {
+    fn cut(&mut self, network: FlowNetwork<'_>, marks: &mut [u8]) -> Result<u64, Fault> {
+        network.check(marks.len())?;
+        Ok(self.solve(network, marks))
+    }
 }

@@ -1,5 +1,5 @@
 ghost use Rattle.std.specs.Prelude.{◌≡◌, ◌+◌, ◌^◌, ◌<◌};
-ghost use Rattle.pathsolver.specs.Onward.{onward};
+ghost use Rattle.pathsolver.specs.Onward.{onward, start};
 
 use residual::arcs::Arc;
 
@@ -14,6 +14,18 @@ pub struct Step {
 }
 
 impl Step {
+    // The step at the source, where each path starts.
+    pub(crate) fn start(source: usize) -> Step
+        ensures { result ≡ start source }
+    {
+        Step {
+            vertex: source,
+            via: None,
+            distance: 0,
+            room: u64::MAX,
+        }
+    }
+
     // The step over arc `k` to the vertex where it ends.
     pub(crate) fn onward(self, k: usize, arc: Arc) -> Step
         requires { self.distance + 1 < 2 ^ 64 }

@@ -6,13 +6,16 @@ use Rattle.std.proofs.lemmas.List.Sums.{sum_by-cons, sum_by_more, sum_by_push}
 use Rattle.std.proofs.lemmas.Bool.{cases_eq, cases_lt}
 use Rattle.std.proofs.lemmas.Bool.Decides.{nat_tests}
 use Rattle.network.specs.Net.{below, exactly_one, when, weight_in as sum_in}
-use Rattle.mincut.specs.declared.flow.FlowPipe.{FlowPipe}
-use Rattle.mincut.specs.Flow.{Flow, capacity, carried_across, carries, no_pipe, total_capacity}
+use Rattle.network.specs.declared.pipe.Pipe.{Pipe}
+use Rattle.mincut.specs.Flow.{Flow, capacity, total_capacity}
+use Rattle.network.specs.Net.{adds, cost_across}
+use Rattle.network.specs.Limits.{no_pipe}
 use Rattle.mincut.proofs.Checking.{Accepted}
-use Rattle.mincut.proofs.Sets.{below_same, sum_by_same}
+use Rattle.mincut.proofs.Sets.{below_same}
 use Rattle.residual.specs.declared.arcs.Arc.{Arc}
-use Rattle.residual.specs.Arcs.{Paired, Vertices, arc_at, leaves, no_arc, residual, reverse, total}
-use Rattle.residual.specs.Laid.{Laid, Separates, sink_of, source_of, table_of, vertices, with_pair, with_pipes, with_sinks, with_sources}
+use Rattle.residual.specs.declared.laying.Pair.{Pair}
+use Rattle.residual.specs.Arcs.{Paired, Table, Vertices, arc_at, leaves, no_arc, residual, reverse, total}
+use Rattle.residual.specs.Laid.{Laid, Separates, both_ways, one_way, sink_of, source_of, table_of, vertices, with_pair, with_pairs, with_pipes, with_sinks, with_sources}
 use Rattle.residual.proofs.Amounts.{when_none}
 
 -- arcs in pairs between vertices below n
@@ -28,6 +31,15 @@ pairs_none n = record {
   paired = λ k h. absurd (omega arith);
   from = λ k h. absurd (omega arith);
   to = λ k h. absurd (omega arith);
+}
+
+pub table_none : (n : ℕ) → Table [] n
+unfolding total
+table_none n = record {
+  paired = λ k h. absurd (omega arith);
+  from = λ k h. absurd (omega arith);
+  to = λ k h. absurd (omega arith);
+  small = omega arith;
 }
 
 module _ (arcs : List Arc) (a b c d : ℕ) where
@@ -113,127 +125,64 @@ module _ (arcs : List Arc) (a b c d : ℕ) where
     }
 
 -- i pairs more than `old`, which add f X to the residual capacity of X, and t to the sum of all
-pub record Added (old new : List Arc) (n i : ℕ) (f : Vertices → ℕ) (t : ℕ) : Type 0 where
-  pub pairs : Pairs new n
-  pub long : length new ≡ length old + 2 * i
-  pub adds : (X : Vertices) → residual X new ≡ residual X old + f X
-  pub sums : total new ≡ total old + t
+record Added (old new : List Arc) (n i : ℕ) (f : Vertices → ℕ) (t : ℕ) : Type 0 where
+  pairs : Pairs new n
+  long : length new ≡ length old + 2 * i
+  adds : (X : Vertices) → residual X new ≡ residual X old + f X
+  sums : total new ≡ total old + t
 
-pub added_none : (arcs : List Arc) (n : ℕ) → Pairs arcs n → (f : Vertices → ℕ) (t : ℕ) → ((X : Vertices) → f X ≡ 0) → t ≡ 0 → Added arcs arcs n 0 f t
-added_none arcs n p f t z e = record {
-  pairs = p;
-  long = omega arith;
-  adds = λ X. omega (arith, z X);
-  sums = omega arith;
-}
+-- what a pair adds to the residual capacity of X
+abbrev across : Vertices → Pair → ℕ
+across X p = when (X p.from && not (X p.to)) p.forth + when (X p.to && not (X p.from)) p.back
 
-pub added_more : {old new : List Arc} {n i : ℕ} (f g : Vertices → ℕ) (t s a b c d : ℕ) → Added old new n i f t → a < n → b < n
-    → ((X : Vertices) → g X ≡ f X + (when (X a && not (X b)) c + when (X b && not (X a)) d)) → s ≡ t + (c + d)
-    → Added old (with_pair new a b c d) n (i + 1) g s
-added_more {old} {new} {n} {i} f g t s a b c d h ha hb e q = record {
-  pairs = pairs_more new a b c d n h.pairs ha hb;
-  long = omega (arith, h.long, two_long new a b c d);
-  adds = λ X. omega (arith, h.adds X, e X, pair_adds new a b c d X);
-  sums = omega (arith, h.sums, pair_sums new a b c d);
-}
+-- the pairs that a rule gives for a list
+module _ {A : Type 0} (rule : ℕ → A → Pair) (d : A) (xs : List A) where
+  abbrev at : ℕ → Pair
+  at k = rule k (get_or xs k d)
 
-below_more : (f : ℕ → ℕ) (n : ℕ) → below (n + 1) f ≡ below n f + f n
-unfolding below
-below_more f n = rw add-one
-
-pub below_none : (f : ℕ → ℕ) → below 0 f ≡ 0
-unfolding below
-below_none f = refl
-
--- what the arcs from the source to the first i nodes add, what those from the first i nodes to the sink add, and what the first i pipes add
-abbrev pub from_source : ℕ → List ℕ → ℕ → Vertices → ℕ
-from_source n cs i X = below i (λ v. when (X (source_of n) && not (X v)) (get_or cs v 0))
-
-abbrev pub to_sink : ℕ → List ℕ → ℕ → Vertices → ℕ
-to_sink n cs i X = below i (λ v. when (X v && not (X (sink_of n))) (get_or cs v 0))
-
-abbrev pub both_ways : Vertices → FlowPipe → ℕ
-both_ways X p = when (X p.first && not (X p.second)) p.capacity + when (X p.second && not (X p.first)) p.capacity
-
-abbrev pub by_pipes : List FlowPipe → ℕ → Vertices → ℕ
-by_pipes ps i X = sum_by (both_ways X) (take i ps)
-
-module _ {old new : List Arc} (n : ℕ) (cs : List ℕ) (i : ℕ) (lt : i < length cs) (few : length cs ≤ n) where
-  pub sources_more : Added old new (vertices n) i (from_source n cs i) (sum (take i cs))
-      → Added old (with_pair new (source_of n) i (get_or cs i 0) 0) (vertices n) (i + 1) (from_source n cs (i + 1)) (sum (take (i + 1) cs))
-  sources_more h =
-      added_more (from_source n cs i) (from_source n cs (i + 1)) _ _ (source_of n) i (get_or cs i 0) 0 h (omega arith) (omega arith)
-      (λ X. omega (arith, below_more (λ v. when (X (source_of n) && not (X v)) (get_or cs v 0)) i, when_none (X i && not (X (source_of n)))))
-      (omega (arith, sum_by_more (λ x. x) cs i 0 lt))
-
-  pub sinks_more : Added old new (vertices n) i (to_sink n cs i) (sum (take i cs))
-      → Added old (with_pair new i (sink_of n) (get_or cs i 0) 0) (vertices n) (i + 1) (to_sink n cs (i + 1)) (sum (take (i + 1) cs))
-  sinks_more h =
-      added_more (to_sink n cs i) (to_sink n cs (i + 1)) _ _ i (sink_of n) (get_or cs i 0) 0 h (omega arith) (omega arith)
-      (λ X. omega (arith, below_more (λ v. when (X v && not (X (sink_of n))) (get_or cs v 0)) i, when_none (X (sink_of n) && not (X i))))
-      (omega (arith, sum_by_more (λ x. x) cs i 0 lt))
-
-pub pipes_more : {old new : List Arc} (n : ℕ) (ps : List FlowPipe) (i : ℕ) → i < length ps → (get_or ps i no_pipe).first < n → (get_or ps i no_pipe).second < n
-    → Added old new (vertices n) i (by_pipes ps i) (sum_by (λ p. p.capacity + p.capacity) (take i ps))
-    → Added old (with_pair new (get_or ps i no_pipe).first (get_or ps i no_pipe).second (get_or ps i no_pipe).capacity (get_or ps i no_pipe).capacity) (vertices n) (i + 1)
-    (by_pipes ps (i + 1)) (sum_by (λ p. p.capacity + p.capacity) (take (i + 1) ps))
-pipes_more n ps i lt ha hb h =
-    let p : FlowPipe = get_or ps i no_pipe in
-    added_more (by_pipes ps i) (by_pipes ps (i + 1)) _ _ p.first p.second p.capacity p.capacity h (omega arith) (omega arith)
-    (λ X. omega (arith, sum_by_more (both_ways X) ps i no_pipe lt)) (omega (arith, sum_by_more (λ p. p.capacity + p.capacity) ps i no_pipe lt))
-
--- the arcs that a list of capacities or pipes brings, from what one of them brings
-module _ (old : List Arc) (n : ℕ) (pairs : Pairs old (vertices n)) where
-  pub sources_added : (cs : List ℕ) → length cs ≤ n → (i : ℕ) → i ≤ length cs → Added old (with_sources old n cs i) (vertices n) i (from_source n cs i) (sum (take i cs))
-  unfolding with_sources
-  sources_added cs few zero le = added_none old (vertices n) pairs (from_source n cs 0) 0 (λ X. below_none _) refl
-  sources_added cs few (suc i) le = subst (λ k. Added old (with_sources old n cs (suc i)) (vertices n) k (from_source n cs k) (sum (take k cs))) (add-one i)
-      (sources_more n cs i (omega arith) few (sources_added cs few i (omega arith)))
-
-  pub sinks_added : (cs : List ℕ) → length cs ≤ n → (i : ℕ) → i ≤ length cs → Added old (with_sinks old n cs i) (vertices n) i (to_sink n cs i) (sum (take i cs))
-  unfolding with_sinks
-  sinks_added cs few zero le = added_none old (vertices n) pairs (to_sink n cs 0) 0 (λ X. below_none _) refl
-  sinks_added cs few (suc i) le = subst (λ k. Added old (with_sinks old n cs (suc i)) (vertices n) k (to_sink n cs k) (sum (take k cs))) (add-one i)
-      (sinks_more n cs i (omega arith) few (sinks_added cs few i (omega arith)))
-
-  pub pipes_added : (ps : List FlowPipe) → ((k : ℕ) → k < length ps → ((get_or ps k no_pipe).first < n) × ((get_or ps k no_pipe).second < n)) → (i : ℕ) → i ≤ length ps
-      → Added old (with_pipes old ps i) (vertices n) i (by_pipes ps i) (sum_by (λ p. p.capacity + p.capacity) (take i ps))
-  unfolding with_pipes
-  pipes_added ps ends zero le = added_none old (vertices n) pairs (by_pipes ps 0) 0 (λ X. refl) refl
-  pipes_added ps ends (suc i) le =
+  added : (n : ℕ) (old : List Arc) → Pairs old n → ((k : ℕ) → k < length xs → ((at k).from < n) × ((at k).to < n)) → (i : ℕ) → i ≤ length xs
+      → Added old (with_pairs rule d old xs i) n i (λ X. below i (λ k. across X (at k))) (below i (λ k. (at k).forth + (at k).back))
+  unfolding with_pairs below
+  added n old pairs ends zero le = record {
+    pairs = pairs;
+    long = omega arith;
+    adds = λ X. omega arith;
+    sums = omega arith;
+  }
+  added n old pairs ends (suc i) le =
+      let h = added n old pairs ends i (omega arith) in
+      let new : List Arc = with_pairs rule d old xs i in
+      let p : Pair = at i in
       let e = ends i (omega arith) in
-      subst (λ k. Added old (with_pipes old ps (suc i)) (vertices n) k (by_pipes ps k) (sum_by (λ p. p.capacity + p.capacity) (take k ps))) (add-one i)
-      (pipes_more n ps i (omega arith) e.0 e.1 (pipes_added ps ends i (omega arith)))
+      record {
+        pairs = pairs_more new p.from p.to p.forth p.back n h.pairs e.0 e.1;
+        long = omega (arith, h.long, two_long new p.from p.to p.forth p.back);
+        adds = λ X. omega (arith, h.adds X, pair_adds new p.from p.to p.forth p.back X);
+        sums = omega (arith, h.sums, pair_sums new p.from p.to p.forth p.back);
+      }
 
--- the tables at the start of the loops and one turn on
-pub sources_start : (old : List Arc) (n : ℕ) (cs : List ℕ) → old ≡ with_sources old n cs 0
-unfolding with_sources
-sources_start old n cs = refl
+  -- the tables at the start of the loop and one turn on
+  pub pairs_start : (old : List Arc) → old ≡ with_pairs rule d old xs 0
+  unfolding with_pairs
+  pairs_start old = refl
 
-pub sources_next : (old : List Arc) (n : ℕ) (cs : List ℕ) (i : ℕ) → with_pair (with_sources old n cs i) (source_of n) i (get_or cs i 0) 0 ≡ with_sources old n cs (i + 1)
-unfolding with_sources
-sources_next old n cs i = ap (with_sources old n cs) (sym (add-one i))
+  pub pairs_next : (old : List Arc) (i : ℕ) → with_pair (with_pairs rule d old xs i) (at i).from (at i).to (at i).forth (at i).back ≡ with_pairs rule d old xs (i + 1)
+  unfolding with_pairs
+  pairs_next old i = ap (with_pairs rule d old xs) (sym (add-one i))
 
-pub sinks_start : (old : List Arc) (n : ℕ) (cs : List ℕ) → old ≡ with_sinks old n cs 0
-unfolding with_sinks
-sinks_start old n cs = refl
+-- a sum by the places of a list is a sum over it
+module _ {A : Type 0} (f : A → ℕ) (d : A) (xs : List A) where
+  below_take : (i : ℕ) → i ≤ length xs → below i (λ k. f (get_or xs k d)) ≡ sum_by f (take i xs)
+  unfolding below
+  below_take zero le = refl
+  below_take (suc i) le = omega (arith, below_take i (omega arith), sum_by_more f xs i d (omega arith), ap (λ n. sum_by f (take n xs)) (add-one i))
 
-pub sinks_next : (old : List Arc) (n : ℕ) (cs : List ℕ) (i : ℕ) → with_pair (with_sinks old n cs i) i (sink_of n) (get_or cs i 0) 0 ≡ with_sinks old n cs (i + 1)
-unfolding with_sinks
-sinks_next old n cs i = ap (with_sinks old n cs) (sym (add-one i))
-
-pub pipes_start : (old : List Arc) (ps : List FlowPipe) → old ≡ with_pipes old ps 0
-unfolding with_pipes
-pipes_start old ps = refl
-
-pub pipes_next : (old : List Arc) (ps : List FlowPipe) (i : ℕ)
-    → with_pair (with_pipes old ps i) (get_or ps i no_pipe).first (get_or ps i no_pipe).second (get_or ps i no_pipe).capacity (get_or ps i no_pipe).capacity ≡ with_pipes old ps (i + 1)
-unfolding with_pipes
-pipes_next old ps i = ap (with_pipes old ps) (sym (add-one i))
+  below_all : below (length xs) (λ k. f (get_or xs k d)) ≡ sum_by f xs
+  below_all = below_take (length xs) (omega arith) ∙ ap (sum_by f) (take_all (length xs) xs (omega arith))
 
 -- a pipe that crosses X adds its capacity one way or the other
-crossing : (X : Vertices) (p : FlowPipe) → both_ways X p ≡ carries X p
-crossing X p = by (X p.first) (X p.second) p.capacity
+crossing : (X : Vertices) (p : Pipe ℕ) → across X (both_ways p) ≡ adds X p
+crossing X p = by (X p.first) (X p.second) p.cost
   where
     by : (b c : Bool) (x : ℕ) → when (b && not c) x + when (c && not b) x ≡ when (exactly_one b c) x
     by true true x = omega arith
@@ -241,9 +190,9 @@ crossing X p = by (X p.first) (X p.second) p.capacity
     by false true x = omega arith
     by false false x = omega arith
 
-doubled : (ps : List FlowPipe) → sum_by (λ p. p.capacity + p.capacity) ps ≡ sum_by (λ p. p.capacity) ps + sum_by (λ p. p.capacity) ps
+doubled : (ps : List (Pipe ℕ)) → sum_by (λ p. p.cost + p.cost) ps ≡ sum_by (λ p. p.cost) ps + sum_by (λ p. p.cost) ps
 doubled [] = refl
-doubled (p ∷ ps) = omega (arith, doubled ps, sum_by-cons (λ (p : FlowPipe). p.capacity + p.capacity) p ps, sum_by-cons (λ (p : FlowPipe). p.capacity) p ps)
+doubled (p ∷ ps) = omega (arith, doubled ps, sum_by-cons (λ (p : Pipe ℕ). p.cost + p.cost) p ps, sum_by-cons (λ (p : Pipe ℕ). p.cost) p ps)
 
 -- the whole kinds of arcs together
 module _ (net : Flow) (m : ℕ) (ok : Accepted net m) where
@@ -256,14 +205,23 @@ module _ (net : Flow) (m : ℕ) (ok : Accepted net m) where
   abbrev whole : List Arc
   whole = with_pipes sunk net.pipes (length net.pipes)
 
-  from_sources : Added [] sourced (vertices net.nodes) (length net.sources) (from_source net.nodes net.sources (length net.sources)) (sum (take (length net.sources) net.sources))
-  from_sources = sources_added [] net.nodes (pairs_none (vertices net.nodes)) net.sources (omega (arith, ok.sources)) (length net.sources) (omega arith)
+  from_sources : Added [] sourced (vertices net.nodes) (length net.sources) (λ X. below (length net.sources) (λ k. across X (one_way (source_of net.nodes) k (get_or net.sources k 0))))
+      (below (length net.sources) (λ k. get_or net.sources k 0 + 0))
+  from_sources =
+      added (λ v c. one_way (source_of net.nodes) v c) 0 net.sources (vertices net.nodes) [] (pairs_none (vertices net.nodes))
+      (λ k h. (omega arith, omega (arith, ok.sources))) (length net.sources) (omega arith)
 
-  to_sinks : Added sourced sunk (vertices net.nodes) (length net.sinks) (to_sink net.nodes net.sinks (length net.sinks)) (sum (take (length net.sinks) net.sinks))
-  to_sinks = sinks_added sourced net.nodes from_sources.pairs net.sinks (omega (arith, ok.sinks)) (length net.sinks) (omega arith)
+  to_sinks : Added sourced sunk (vertices net.nodes) (length net.sinks) (λ X. below (length net.sinks) (λ k. across X (one_way k (sink_of net.nodes) (get_or net.sinks k 0))))
+      (below (length net.sinks) (λ k. get_or net.sinks k 0 + 0))
+  to_sinks =
+      added (λ v c. one_way v (sink_of net.nodes) c) 0 net.sinks (vertices net.nodes) sourced from_sources.pairs
+      (λ k h. (omega (arith, ok.sinks), omega arith)) (length net.sinks) (omega arith)
 
-  along_pipes : Added sunk whole (vertices net.nodes) (length net.pipes) (by_pipes net.pipes (length net.pipes)) (sum_by (λ p. p.capacity + p.capacity) (take (length net.pipes) net.pipes))
-  along_pipes = pipes_added sunk net.nodes to_sinks.pairs net.pipes (λ k h. ((ok.ends k h).0, (ok.ends k h).1)) (length net.pipes) (omega arith)
+  along_pipes : Added sunk whole (vertices net.nodes) (length net.pipes) (λ X. below (length net.pipes) (λ k. across X (both_ways (get_or net.pipes k no_pipe))))
+      (below (length net.pipes) (λ k. (get_or net.pipes k no_pipe).cost + (get_or net.pipes k no_pipe).cost))
+  along_pipes =
+      added (λ _ p. both_ways p) no_pipe net.pipes (vertices net.nodes) sunk to_sinks.pairs
+      (λ k h. (omega (arith, (ok.ends k h).0), omega (arith, (ok.ends k h).1))) (length net.pipes) (omega arith)
 
   none_left : (X : Vertices) → residual X [] ≡ 0
   unfolding residual
@@ -272,6 +230,10 @@ module _ (net : Flow) (m : ℕ) (ok : Accepted net m) where
   none_in_all : total [] ≡ 0
   unfolding total
   none_in_all = refl
+
+  -- what the arcs of a list of capacities can take together
+  forth_alone : (cs : List ℕ) → below (length cs) (λ k. get_or cs k 0 + 0) ≡ sum cs
+  forth_alone cs = below_same (length cs) _ _ (λ k _. omega arith) ∙ below_all (λ x. x) 0 cs
 
   small : total whole < 2 ^ 64
   unfolding total_capacity
@@ -284,19 +246,21 @@ module _ (net : Flow) (m : ℕ) (ok : Accepted net m) where
         none_in_all,
         doubled net.pipes,
         ok.small,
-        ap sum (take_all (length net.sources) net.sources (omega arith)),
-        ap sum (take_all (length net.sinks) net.sinks (omega arith)),
-        ap (sum_by (λ (p : FlowPipe). p.capacity + p.capacity)) (take_all (length net.pipes) net.pipes (omega arith)),
+        forth_alone net.sources,
+        forth_alone net.sinks,
+        below_all (λ (p : Pipe ℕ). p.cost + p.cost) no_pipe net.pipes,
       )
 
   capacities : (X : Vertices) → Separates net.nodes X → residual X whole ≡ capacity net X
-  unfolding capacity carried_across sum_in
+  unfolding capacity cost_across sum_in
   capacities X h =
-      let a = below_same (length net.sources) (λ v. when (X (source_of net.nodes) && not (X v)) (get_or net.sources v 0)) (λ v. when (not (X v)) (get_or net.sources v 0))
-      (λ v _. ap (λ (b : Bool). when (b && not (X v)) (get_or net.sources v 0)) h.source) in
-      let b = below_same (length net.sinks) (λ v. when (X v && not (X (sink_of net.nodes))) (get_or net.sinks v 0)) (λ v. when (X v) (get_or net.sinks v 0))
-      (λ v _. ap (λ (b : Bool). when (X v && not b) (get_or net.sinks v 0)) h.sink ∙ always (X v) (get_or net.sinks v 0)) in
-      let c = ap (sum_by (both_ways X)) (take_all (length net.pipes) net.pipes (omega arith)) ∙ sum_by_same (both_ways X) (carries X) no_pipe net.pipes (λ k _. crossing X (get_or net.pipes k no_pipe)) in
+      let a = below_same (length net.sources) (λ k. across X (one_way (source_of net.nodes) k (get_or net.sources k 0))) (λ v. when (not (X v)) (get_or net.sources v 0))
+      (λ v _. omega (arith, ap (λ (b : Bool). when (b && not (X v)) (get_or net.sources v 0)) h.source, when_none (X v && not (X (source_of net.nodes))))) in
+      let b = below_same (length net.sinks) (λ k. across X (one_way k (sink_of net.nodes) (get_or net.sinks k 0))) (λ v. when (X v) (get_or net.sinks v 0))
+      (λ v _.
+      omega (arith, ap (λ (b : Bool). when (X v && not b) (get_or net.sinks v 0)) h.sink, always (X v) (get_or net.sinks v 0), when_none (X (sink_of net.nodes) && not (X v)))) in
+      let c = below_same (length net.pipes) (λ k. across X (both_ways (get_or net.pipes k no_pipe))) (λ k. adds X (get_or net.pipes k no_pipe))
+      (λ k _. crossing X (get_or net.pipes k no_pipe)) ∙ below_all (adds X) no_pipe net.pipes in
       omega (arith, from_sources.adds X, to_sinks.adds X, along_pipes.adds X, none_left X)
     where
       always : (b : Bool) (x : ℕ) → when (b && true) x ≡ when b x

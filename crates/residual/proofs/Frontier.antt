@@ -8,7 +8,7 @@ use Rattle.network.specs.Net.{below, when}
 use Rattle.residual.specs.declared.arcs.Arc.{Arc}
 use Rattle.residual.specs.Arcs.{Vertices, arc_at}
 use Rattle.residual.specs.Reach.{Closed, Reached}
-use Rattle.residual.specs.Star.{latest}
+use Rattle.residual.specs.Star.{ahead, latest}
 use Rattle.residual.proofs.Amounts.{when_le}
 use Rattle.residual.proofs.Indexing.{latest_none, latest_some}
 
@@ -72,16 +72,6 @@ module _ {R R' : Vertices} (v : ℕ) (g : Grown R R' v) (new : R v ≡ false) wh
   -- one more fits
   pub count_room : (n : ℕ) → v < n → count n R < n
   count_room n lt = omega (arith, count_more n lt, count_le n R')
-
--- the arcs from the next one of a vertex on, the latest first, are numbered below this
-abbrev pub ahead : Option ℕ → ℕ
-ahead None = 0
-ahead (Some k) = k + 1
-
--- the latest of the first j arcs of u is one of them
-pub ahead_le : (arcs : List Arc) (u j : ℕ) (next : Option ℕ) → next ≡ latest arcs u j → ahead next ≤ j
-ahead_le arcs u j None e = omega arith
-ahead_le arcs u j (Some k) e = omega (arith, (latest_some arcs u j k (sym e)).under)
 
 module _ (arcs : List Arc) where
   -- each arc from u that is numbered j or above, and has residual capacity, leads into R

@@ -1,12 +1,12 @@
 -- The loop that lists the arcs of each vertex, and what such a list says.
 -- Assumes nothing.
-use Rattle.std.proofs.Common.{◌≡◌, ℕ, zero, suc, ◌+◌, ◌<◌, ◌≤◌, true, false, cond, eqb, ◌≢◌, List, length, get_or, set, replicate, Some, None, Option, sym, refl, ap, ◌∙◌, ⊎_elim, add-one, arith, length-set, get_or-set_other, get_or-set_same, below_more}
+use Rattle.std.proofs.Common.{◌≡◌, ℕ, zero, suc, ◌+◌, ◌<◌, ◌≤◌, true, false, cond, eqb, ◌≢◌, List, [], length, get_or, set, replicate, Some, None, Option, sym, refl, ap, ◌∙◌, ⊎_elim, add-one, arith, length-set, get_or-set_other, get_or-set_same, below_more}
 use lib.ListN.{length-replicate}
-use Rattle.std.proofs.lemmas.List.{get_or-replicate}
+use Rattle.std.proofs.lemmas.List.{get_or-replicate, get_or_default}
 use Rattle.std.proofs.lemmas.Bool.{cases_eq, cases_Bool, cond-true, cond-false, eq-eqb, ne_eqb, eqb-true, eqb-false}
 use Rattle.residual.specs.declared.arcs.Arc.{Arc}
 use Rattle.residual.specs.Arcs.{Alike, arc_at}
-use Rattle.residual.specs.Star.{Indexed, latest}
+use Rattle.residual.specs.Star.{Indexed, ahead, latest}
 
 latest_here : (arcs : List Arc) (u i : ℕ) → (arc_at arcs i).from ≡ u → latest arcs u (i + 1) ≡ Some i
 unfolding latest
@@ -50,6 +50,10 @@ listed_all arcs heads nexts i e room l = record {
   long = room;
 }
 
+-- where there are no arcs, none is listed
+pub indexed_none : (n : ℕ) (heads nexts : List (Option ℕ)) → heads ≡ replicate n None → Indexed [] heads nexts
+indexed_none n heads nexts e = listed_all [] heads nexts 0 refl (omega arith) (listed_none [] n heads nexts e)
+
 -- what the latest arc of u, of the first i, is
 pub record Latest (arcs : List Arc) (u i k : ℕ) : Type 0 where
   pub under : k < i
@@ -88,6 +92,18 @@ latest_none arcs u (suc i) e j lt f =
     (λ (b : eqb (arc_at arcs i).from u ≡ false).
     ⊎_elim (λ (s : j ≡ i). eqb-false _ _ b (ap (λ n. (arc_at arcs n).from) (sym s) ∙ f)) (λ ne. latest_none arcs u i (sym (cond-false _ _ _ b) ∙ e) j (omega arith) f) (cases_eq j i))
     (cases_Bool (eqb (arc_at arcs i).from u))
+
+-- the latest of the first j arcs of u is one of them
+pub ahead_le : (arcs : List Arc) (u j : ℕ) (next : Option ℕ) → next ≡ latest arcs u j → ahead next ≤ j
+ahead_le arcs u j None e = omega arith
+ahead_le arcs u j (Some k) e = omega (arith, (latest_some arcs u j k (sym e)).under)
+
+-- the first arc of a vertex is one of the table, and the one after arc k is one of those before it
+pub first_under : (arcs : List Arc) (heads nexts : List (Option ℕ)) (u : ℕ) (next : Option ℕ) → Indexed arcs heads nexts → u < length heads → next ≡ get_or heads u next → ahead next ≤ length arcs
+first_under arcs heads nexts u next x lt e = ahead_le arcs u (length arcs) next (e ∙ get_or_default heads u next None lt ∙ x.head u lt)
+
+pub next_under : (arcs : List Arc) (heads nexts : List (Option ℕ)) (k : ℕ) (next : Option ℕ) → Indexed arcs heads nexts → k < length arcs → next ≡ get_or nexts k next → ahead next ≤ k
+next_under arcs heads nexts k next x lt e = ahead_le arcs (arc_at arcs k).from k next (e ∙ get_or_default nexts k next None (omega (arith, x.long)) ∙ x.next k lt)
 
 -- the lists do not depend on what the arcs can take
 latest_alike : (old new : List Arc) → Alike old new → (u i : ℕ) → latest new u i ≡ latest old u i

@@ -1,6 +1,6 @@
 -- A push along an arc: what it leaves of the table, and what it moves.
 -- Assumes nothing.
-use Rattle.std.proofs.Common.{◌≡◌, ℕ, ◌+◌, ◌-◌, ◌^◌, ◌<◌, ◌≤◌, Bool, true, false, not, ◌&&◌, ◌≢◌, List, length, set, sym, refl, ap, ◌∙◌, subst, ⊎_elim, arith, length-set, get_or-set_other, get_or-set_same, rules}
+use Rattle.std.proofs.Common.{◌≡◌, ℕ, ◌+◌, ◌-◌, ◌^◌, ◌<◌, ◌≤◌, Bool, true, false, not, ◌&&◌, ◌≢◌, List, length, set, Option, sym, refl, ap, ◌∙◌, subst, ⊎_elim, arith, length-set, get_or-set_other, get_or-set_same, rules}
 use Rattle.std.proofs.lemmas.List.{set_past}
 use Rattle.std.proofs.lemmas.List.Sums.{sum_by-set, get_or-le-sum_by}
 use Rattle.std.proofs.lemmas.Bool.{cases_eq, cases_lt}
@@ -8,6 +8,8 @@ use Rattle.network.specs.Net.{when}
 use Rattle.residual.specs.declared.arcs.Arc.{Arc}
 use Rattle.residual.specs.Arcs.{Alike, Moved, Paired, Table, arc_at, holding, leaves, no_arc, pushed, residual, reverse, total}
 use Rattle.residual.specs.Laws.{PushMoves}
+use Rattle.residual.specs.Star.{Indexed}
+use Rattle.residual.proofs.Indexing.{indexed_alike}
 
 pub reverse_other : (i : ℕ) → reverse i ≢ i
 reverse_other i = search rules
@@ -120,3 +122,12 @@ table_kept old new n s t table =
       to = λ k lt. omega (arith, s.to k, table.to k (shorter k lt));
       small = omega (arith, table.small);
     }
+
+pub table_pushed : (arcs : List Arc) (n k d : ℕ) → Table arcs n → k < length arcs → d ≤ (arc_at arcs k).remaining → Table (pushed arcs k d) n
+table_pushed arcs n k d table within room = table_kept arcs (pushed arcs k d) n (pushed_alike arcs k d) (pushed_total arcs k d within (table.paired k within).there room) table
+
+pub fits_pushed : (arcs : List Arc) (n k d : ℕ) → Table arcs n → k < length arcs → d ≤ (arc_at arcs k).remaining → (arc_at arcs (reverse k)).remaining + d < 2 ^ 64
+fits_pushed arcs n k d table within room = pushed_small arcs k d within (table.paired k within).there room table.small
+
+pub indexed_pushed : (arcs : List Arc) (heads nexts : List (Option ℕ)) (k d : ℕ) → Indexed arcs heads nexts → Indexed (pushed arcs k d) heads nexts
+indexed_pushed arcs heads nexts k d indexed = indexed_alike arcs (pushed arcs k d) heads nexts (pushed_alike arcs k d) indexed

@@ -1,6 +1,6 @@
 -- The table of arcs, what leaves a set of vertices, and a push along an arc.
 -- Assumes nothing.
-use Rattle.std.specs.Prelude.{◌≡◌, ℕ, ◌+◌, ◌-◌, ◌%◌, ◌^◌, ◌<◌, Bool, cond, not, ◌&&◌, List, length, sum_by, ◌==◌, slice_index_or, slice_set}
+use Rattle.std.specs.Prelude.{◌≡◌, ℕ, ◌+◌, ◌-◌, ◌%◌, ◌^◌, ◌<◌, Bool, if◌then◌else◌, not, ◌&&◌, List, length, sum_by, ◌==◌, slice_index_or, slice_set}
 use Rattle.network.specs.Net.{when}
 use Rattle.residual.specs.declared.arcs.Arc.{Arc}
 
@@ -17,7 +17,7 @@ arc_at arcs i = slice_index_or arcs i no_arc
 
 -- the number of the arc that runs against arc i
 abbrev pub reverse : ℕ → ℕ
-reverse i = cond (i % 2 == 0) (i + 1) (i - 1)
+reverse i = if i % 2 == 0 then i + 1 else i - 1
 
 -- the same arc with another residual capacity
 abbrev pub holding : Arc → ℕ → Arc

@@ -1,6 +1,6 @@
 -- Laws that solvers share.
 -- Assumes nothing.
-use Rattle.std.specs.Prelude.{◌≡◌, ℕ, ◌<◌, ◌≤◌, cond, List, length, None, slice_index}
+use Rattle.std.specs.Prelude.{◌≡◌, ℕ, ◌<◌, ◌≤◌, if◌then◌else◌, List, length, None, slice_index}
 use Rattle.mincut.specs.Flow.{Flow}
 use Rattle.mincut.specs.Solver.{Solved, cut_refusal}
 use Rattle.residual.specs.declared.arcs.Arc.{Arc}
@@ -19,5 +19,5 @@ PushMoves =
 abbrev pub ReachedIsSmallest : Type 0
 ReachedIsSmallest =
     (net : Flow) (arcs : List Arc) (sent : ℕ) (R : Vertices) (before marks : List ℕ) → cut_refusal net (length before) ≡ None → length marks ≡ length before
-    → Finished net arcs sent → Reached arcs (source_of net.nodes) R → ((v : ℕ) → v < length marks → slice_index marks v ≡ cond (R v) 1 0)
+    → Finished net arcs sent → Reached arcs (source_of net.nodes) R → ((v : ℕ) → v < length marks → slice_index marks v ≡ (if R v then 1 else 0))
     → Solved net marks sent

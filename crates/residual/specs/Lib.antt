@@ -1,5 +1,6 @@
 pub mod Arcs
 pub mod Star
+pub mod Leaving
 pub mod Waiting
 pub mod Identity
 pub mod Reach

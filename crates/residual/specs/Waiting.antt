@@ -1,6 +1,6 @@
 -- What waits in a queue.
 -- Assumes nothing.
-use Rattle.std.specs.Prelude.{ℕ, ◌≤◌, List, length}
+use Rattle.std.specs.Prelude.{ℕ, List, length}
 use Rattle.std.specs.List.{between}
 use Rattle.residual.specs.declared.queue.Queue.{Queue}
 
@@ -11,6 +11,3 @@ waiting q = between q.head q.tail q.slots.now
 -- how many slots there are
 abbrev pub room : {X : Type 0} → Queue X → ℕ
 room q = length q.slots.now
-
-abbrev pub Sound : {X : Type 0} → Queue X → Type 0
-Sound q = (q.head ≤ q.tail) × (q.tail ≤ room q)

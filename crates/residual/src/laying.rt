@@ -1,68 +1,81 @@
-ghost use Rattle.std.specs.Prelude.{◌≡◌, ◌+◌, ◌*◌, ◌≤◌, length, None, vec_len, vec_capacity};
-ghost use Rattle.network.specs.Limits.{max_nodes};
+ghost use Rattle.std.specs.Prelude.{◌≡◌, ℕ, ◌+◌, ◌*◌, ◌≤◌, length, None, vec_len, vec_capacity};
 ghost use Rattle.mincut.specs.Solver.{cut_refusal};
 ghost use Rattle.mincut.specs.View.{flow_of};
-ghost use Rattle.residual.specs.Laid.{Laid, max_arcs, table_of, with_pair, with_pipes, with_sinks, with_sources};
+ghost use Rattle.residual.specs.declared.laying.Pair.{Pair};
+ghost use Rattle.residual.specs.Laid.{both_ways, IsRule, Laid, max_arcs, one_way, table_of, with_pair, with_pairs};
 
 use crate::arcs::Arc;
 use mincut::flow::{FlowNetwork, FlowPipe};
 
-// Appends an arc and its reverse.
-fn add_pair(arcs: &mut Vec<Arc>, from: usize, to: usize, forth: u64, back: u64)
+// Two arcs between two vertices, one each way, and what each can take.
+#[derive(Clone, Copy)]
+struct Pair {
+    from: usize,
+    to: usize,
+    forth: u64,
+    back: u64,
+}
+
+impl Pair {
+    // An arc with the capacity, whose reverse can take nothing.
+    fn one_way(from: usize, to: usize, capacity: u64) -> Pair
+        ensures { result ≡ one_way from to capacity }
+    {
+        Pair {
+            from,
+            to,
+            forth: capacity,
+            back: 0,
+        }
+    }
+
+    // The arcs of a pipe, which both have its capacity.
+    fn both_ways(pipe: FlowPipe) -> Pair
+        ensures { result ≡ both_ways pipe }
+    {
+        Pair {
+            from: pipe.first,
+            to: pipe.second,
+            forth: pipe.cost,
+            back: pipe.cost,
+        }
+    }
+}
+
+// Appends the arcs of a pair.
+fn add_pair(arcs: &mut Vec<Arc>, pair: Pair)
     requires { vec_len arcs.old + 2 ≤ vec_capacity arcs.old }
-    ensures items { arcs.new.items ≡ with_pair arcs.old.items from to forth back }
+    ensures items { arcs.new.items ≡ with_pair arcs.old.items pair.from pair.to pair.forth pair.back }
     ensures len { vec_len arcs.new ≡ vec_len arcs.old + 2 }
     ensures capacity { vec_capacity arcs.new ≡ vec_capacity arcs.old }
 {
     arcs.push_reserved(Arc {
-        from,
-        to,
-        remaining: forth,
+        from: pair.from,
+        to: pair.to,
+        remaining: pair.forth,
     });
     arcs.push_reserved(Arc {
-        from: to,
-        to: from,
-        remaining: back,
+        from: pair.to,
+        to: pair.from,
+        remaining: pair.back,
     });
 }
 
-// Appends the arcs from the source to each node.
-fn add_sources(arcs: &mut Vec<Arc>, nodes: usize, capacities: &[u64])
-    requires { vec_len arcs.old + 2 * length capacities.now ≤ vec_capacity arcs.old }
-    ensures items { arcs.new.items ≡ with_sources arcs.old.items nodes capacities.now (length capacities.now) }
-    ensures len { vec_len arcs.new ≡ vec_len arcs.old + 2 * length capacities.now }
+// Appends the pair that the rule gives for each item and its number.
+fn add_pairs<T: Copy, F: Fn(usize, T) -> Pair>(arcs: &mut Vec<Arc>, items: &[T], rule: F)
+    requires room { vec_len arcs.old + 2 * length items.now ≤ vec_capacity arcs.old }
+    requires callable { F.IsAlwaysCallable rule }
+    ensures items { (pair_of : ℕ → T → Pair) (d : T) → IsRule (F.post rule) pair_of → arcs.new.items ≡ with_pairs pair_of d arcs.old.items items.now (length items.now) }
+    ensures len { vec_len arcs.new ≡ vec_len arcs.old + 2 * length items.now }
     ensures capacity { vec_capacity arcs.new ≡ vec_capacity arcs.old }
 {
-    for (node, capacity) in capacities.iter().enumerate() {
-        add_pair(arcs, nodes, node, *capacity, 0);
+    for (i, item) in items.iter().enumerate() {
+        add_pair(arcs, rule(i, *item));
     }
 }
 
-// Appends the arcs from each node to the sink.
-fn add_sinks(arcs: &mut Vec<Arc>, nodes: usize, capacities: &[u64])
-    requires room { vec_len arcs.old + 2 * length capacities.now ≤ vec_capacity arcs.old }
-    requires few { nodes ≤ max_nodes }
-    ensures items { arcs.new.items ≡ with_sinks arcs.old.items nodes capacities.now (length capacities.now) }
-    ensures len { vec_len arcs.new ≡ vec_len arcs.old + 2 * length capacities.now }
-    ensures capacity { vec_capacity arcs.new ≡ vec_capacity arcs.old }
-{
-    for (node, capacity) in capacities.iter().enumerate() {
-        add_pair(arcs, node, nodes + 1, *capacity, 0);
-    }
-}
-
-// Appends the arcs of each pipe, one each way.
-fn add_pipes(arcs: &mut Vec<Arc>, pipes: &[FlowPipe])
-    requires { vec_len arcs.old + 2 * length pipes.now ≤ vec_capacity arcs.old }
-    ensures items { arcs.new.items ≡ with_pipes arcs.old.items pipes.now (length pipes.now) }
-    ensures capacity { vec_capacity arcs.new ≡ vec_capacity arcs.old }
-{
-    for pipe in pipes {
-        add_pair(arcs, pipe.first, pipe.second, pipe.capacity, pipe.capacity);
-    }
-}
-
-// Fills the table with the arcs of a flow network that no solver refuses.
+// Fills the table with the arcs of a flow network that no solver refuses: from the source to each node, from each
+// node to the sink, and both ways along each pipe.
 pub fn lay(network: FlowNetwork<'_>, arcs: &mut Vec<Arc>)
     requires accepted { cut_refusal (flow_of network) network.nodes ≡ None }
     requires room { max_arcs ≤ vec_capacity arcs.old }
@@ -70,8 +83,18 @@ pub fn lay(network: FlowNetwork<'_>, arcs: &mut Vec<Arc>)
     ensures laid { Laid (flow_of network.entry) arcs.new.items }
     ensures capacity { vec_capacity arcs.new ≡ vec_capacity arcs.old }
 {
+    let source = network.nodes;
+    let sink = source + 1;
     arcs.clear();
-    add_sources(arcs, network.nodes, network.sources);
-    add_sinks(arcs, network.nodes, network.sinks);
-    add_pipes(arcs, network.pipes);
+    add_pairs(
+        arcs,
+        network.sources,
+        |node, capacity| Pair::one_way(source, node, capacity),
+    );
+    add_pairs(
+        arcs,
+        network.sinks,
+        |node, capacity| Pair::one_way(node, sink, capacity),
+    );
+    add_pairs(arcs, network.pipes, |_, pipe| Pair::both_ways(pipe));
 }

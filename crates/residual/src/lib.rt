@@ -3,6 +3,7 @@
 #![tactic(auto)]
 
 pub mod arcs;
+pub mod graph;
 pub mod laws;
 pub mod laying;
 pub mod marking;

@@ -5,49 +5,45 @@ ghost use Rattle.network.specs.Net.{empty};
 ghost use Rattle.network.specs.View.{view};
 
 use super::Network;
-use crate::limits::{MAX_NODES, MAX_PIPES, check_pipe, check_weight};
+use crate::limits::{MAX_NODES, MAX_PIPES, check_pipe, check_weight, refuse_if};
 use crate::pipe::Pipe;
 use faults::fault::Fault;
-use faults::layer::Layer;
 use faults::refusal::Refusal;
 
 impl Network {
     // Adds a node of this weight, and answers its number.
+    #[tactic(auto, using(crate::proofs::Keeps::add_keeps))]
     pub fn add_node(&mut self, weight: u32) -> Result<usize, Fault>
         ensures answer { result ≡ add_answer (view self.old) weight }
         ensures after { view self.new ≡ after_edit (view self.old) (add weight) }
     {
         let node = self.weights.len();
-        if node >= MAX_NODES {
-            return Err(Fault::of(Layer::Board, Refusal::TooManyNodesOrPipes));
-        }
+        refuse_if(node >= MAX_NODES, Refusal::TooManyNodesOrPipes)?;
         check_weight(weight)?;
         self.weights.push_reserved(weight);
         Ok(node)
     }
 
     // Gives the node this weight.
+    #[tactic(auto, using(crate::proofs::Keeps::weigh_keeps))]
     pub fn weigh(&mut self, node: usize, weight: u32) -> Result<(), Fault>
         ensures answer { result ≡ weigh_answer (view self.old) node weight }
         ensures after { view self.new ≡ after_edit (view self.old) (weigh node weight) }
     {
         check_weight(weight)?;
-        if node >= self.weights.len() {
-            return Err(Fault::of(Layer::Board, Refusal::BadNodeOrPipe));
-        }
+        refuse_if(node >= self.weights.len(), Refusal::BadNodeOrPipe)?;
         self.weights[node] = weight;
         Ok(())
     }
 
     // Lays a pipe between two nodes at this cost, and answers its number.
+    #[tactic(auto, using(crate::proofs::Keeps::join_keeps))]
     pub fn join(&mut self, first: usize, second: usize, cost: u32) -> Result<usize, Fault>
         ensures answer { result ≡ join_answer (view self.old) first second cost }
         ensures after { view self.new ≡ after_edit (view self.old) (join first second cost) }
     {
         let number = self.pipes.len();
-        if number >= MAX_PIPES {
-            return Err(Fault::of(Layer::Board, Refusal::TooManyNodesOrPipes));
-        }
+        refuse_if(number >= MAX_PIPES, Refusal::TooManyNodesOrPipes)?;
         let pipe = Pipe {
             first,
             second,
@@ -59,13 +55,12 @@ impl Network {
     }
 
     // Takes the pipe out; each later pipe's number falls by one.
+    #[tactic(auto, using(crate::proofs::Keeps::remove_keeps))]
     pub fn remove(&mut self, pipe: usize) -> Result<(), Fault>
         ensures answer { result ≡ remove_answer (view self.old) pipe }
         ensures after { view self.new ≡ after_edit (view self.old) (remove pipe) }
     {
-        if pipe >= self.pipes.len() {
-            return Err(Fault::of(Layer::Board, Refusal::BadNodeOrPipe));
-        }
+        refuse_if(pipe >= self.pipes.len(), Refusal::BadNodeOrPipe)?;
         let _ = self.pipes.remove(pipe);
         Ok(())
     }

@@ -1,9 +1,0 @@
-use Rattle.std.proofs.Common.{arith}
-use Rattle.mincut.specs.View.{flow_of}
-use Rattle.residual.proofs.Cutting.{reached_is_smallest}
-use Rattle.residual.proofs.marking.mark_cut.Goals as goal
-
-pub returns : goal.returns
-returns c sent done =
-    reached_is_smallest (flow_of c.args.network) c.args.arcs.now sent _ c.args.marks.now c.mark_reached.new.marks c.requires.accepted (omega arith) done
-    c.mark_reached.ensures.reached c.mark_reached.ensures.marks

@@ -1,0 +1,79 @@
+use Rattle.std.proofs.Common.{◌<◌, ℕ, Bool, true, false, List, length, get_or, set, Option, sym, refl, ap, ◌∙◌, subst, arith, length-set, rules}
+use Rattle.std.proofs.lemmas.Bool.{lt-ltb, ltb-false, ltb-true}
+use Rattle.residual.specs.declared.graph.leaving.Leaving.{Leaving}
+use Rattle.residual.specs.Laid.{vertices}
+use Rattle.residual.proofs.Frontier.{grown_set}
+use Rattle.residual.proofs.Searching.{Among, Between, Popped, all_gone, comes_to_end, filled, gone, passes_by, same_graph, sets_out, slot_for, takes_in, to_under, turns_back, turns_to}
+use Rattle.residual.proofs.marking.marks.reach.Goals as goal
+use Rattle.residual.proofs.marking.marks.reach.Goals.{else-is_open-via-then-is_open+else-not-seen-arc, else-is_open-via-else-is_open}
+
+pub loop-vertex-init : goal.loop-vertex-init
+loop-vertex-init c =
+    let p = c.push.ensures in
+    let graph = c.args.graph.now in
+    let source = c.source-source.result in
+    let seen : List Bool = set c.fill.new.self source true in
+    subst (λ (s : ℕ). Between (λ v. v) graph.arcs.items (vertices graph.nodes) s (λ v. get_or seen v false) c.push.new.self) c.source-source.ensures
+    (sets_out (λ v. v) graph.arcs.items {q = c.new-queue.result}
+    (filled c.fill.new.self (length c.args.seen.now) false (c.fill.ensures.after (λ y e. search rules)))
+    (grown_set (λ b. b) c.fill.new.self source true false (omega (arith, c.fill.ensures.len, c.source-source.ensures)) refl)
+    (omega (arith, c.source-source.ensures)) (omega (arith, c.new-queue.ensures.room)) c.new-queue.ensures.empty c.new-queue.ensures.start.1 refl
+    record { fits = p.fits; queued = p.queued; kept = p.kept; used = p.used; room = p.room })
+
+pub loop-arc-init : goal.loop-arc-init
+loop-arc-init c =
+    let e = c.in-Some.ensures in
+    let arcs = c.args.graph.now.arcs.items in
+    let is = c.into_iter-arc-iterator.ensures.into_iter_gives in
+    let p : Popped c.loop-vertex.queue c.pop.new.self c.in-Some.vertex = record { next = e.next; used = e.used; room = e.room } in (
+      tt,
+      tt,
+      ap (λ (i : Leaving). i.graph.now) is ∙ c.leaving-arc-items.ensures.graph,
+      turns_to (λ v. v) arcs _ (ap (λ (i : Leaving). i.next) is ∙ c.leaving-arc-items.ensures.first) p c.loop-vertex.invariant,
+    )
+
+pub unwrap-requires-then-not-seen-arc : goal.unwrap-requires-then-not-seen-arc
+unwrap-requires-then-not-seen-arc c =
+    let graph = c.args.graph.now in
+    let given = gone c.loop-arc.arc-iterator c.next.new.self c.loop-arc.invariant.2 c.in-Some-2.ensures.steps in
+    let to = to_under (λ v. v) graph.arcs.items given c.loop-arc.invariant.3 graph.table in
+    let more = grown_set (λ b. b) c.loop-arc.seen c.in-Some-2.arc.to true false (omega (arith, to, c.fill.ensures.len, length-set c.fill.new.self c.source-source.result true)) refl in
+    c.push-then-not-seen-arc.ensures.fits ∙ lt-ltb _ _ (slot_for (λ v. v) graph.arcs.items given c.loop-arc.invariant.3 graph.table more c.if-not-seen-arc.true)
+
+pub loop-arc-preserved-then-not-seen-arc : goal.loop-arc-preserved-then-not-seen-arc
+loop-arc-preserved-then-not-seen-arc c =
+    let p = c.push-then-not-seen-arc.ensures in
+    let pos : 0 < c.in-Some-2.arc.remaining = omega (arith, ltb-true 0 _ (sym c.if-is_open.ensures)) in
+    let graph = c.args.graph.now in
+    let given = gone c.loop-arc.arc-iterator c.next.new.self c.loop-arc.invariant.2 c.in-Some-2.ensures.steps in
+    let to = to_under (λ v. v) graph.arcs.items given c.loop-arc.invariant.3 graph.table in
+    let more = grown_set (λ b. b) c.loop-arc.seen c.in-Some-2.arc.to true false (omega (arith, to, c.fill.ensures.len, length-set c.fill.new.self c.source-source.result true)) refl in (
+      tt,
+      tt,
+      same_graph c.loop-arc.arc-iterator c.next.new.self c.loop-arc.invariant.2 c.in-Some-2.ensures.steps,
+      takes_in (λ v. v) graph.arcs.items given c.loop-arc.invariant.3 graph.table more c.if-not-seen-arc.true
+          pos refl record { fits = p.fits; queued = p.queued; kept = p.kept; used = p.used; room = p.room },
+    )
+
+pub loop-arc-preserved : goal.loop-arc-preserved
+loop-arc-preserved c =
+    let graph = c.args.graph.now in
+    let given = gone c.loop-arc.arc-iterator c.next.new.self c.loop-arc.invariant.2 c.in-Some-2.ensures.steps in (
+      tt,
+      tt,
+      same_graph c.loop-arc.arc-iterator c.next.new.self c.loop-arc.invariant.2 c.in-Some-2.ensures.steps,
+      passes_by (λ v. v) graph.arcs.items given c.loop-arc.invariant.3
+          (elim c.else-is_open.branch [
+            | else-is_open-via-then-is_open+else-not-seen-arc w ↦ λ _. w.if-not-seen-arc.false
+            | else-is_open-via-else-is_open w ↦ λ h. absurd (omega (arith, ltb-false 0 _ (sym w.if-is_open.ensures)))
+          ]),
+    )
+
+pub loop-vertex-preserved : goal.loop-vertex-preserved
+loop-vertex-preserved c =
+    turns_back (λ v. v) c.args.graph.now.arcs.items
+    (subst (λ (o : Option ℕ). Among (λ v. v) c.args.graph.now.arcs.items (vertices c.args.graph.now.nodes) c.args.graph.now.nodes (λ v. get_or c.loop-arc.seen v false) c.pop.new.self c.loop-arc.queue c.in-Some.vertex o)
+    (all_gone c.loop-arc.arc-iterator c.next.new.self c.in-None.ensures.steps) c.loop-arc.invariant.3)
+
+pub returns : goal.returns
+returns c = comes_to_end (λ v. v) c.args.graph.now.arcs.items c.in_default.ensures.next c.loop-vertex.invariant

@@ -1,5 +1,0 @@
-use Rattle.residual.proofs.Indexing.{Listed}
-use Rattle.residual.proofs.star.index.Given as goal
-
-abbrev pub invariant-loop-k : goal.invariant-loop-k
-invariant-loop-k l = Listed l.arcs l.heads l.nexts l.k

@@ -1,0 +1,66 @@
+ghost use Rattle.std.specs.Prelude.{◌≡◌, ℕ, ◌<◌, ◌≤◌, false, length, if◌then◌else◌, None, IfOk, slice_index, slice_index_or, vec_len};
+ghost use Rattle.mincut.specs.Flow.{Flow};
+ghost use Rattle.mincut.specs.Solver.{cut_refusal, Solved};
+ghost use Rattle.residual.specs.Finished.{Finished};
+ghost use Rattle.residual.specs.Laid.{max_vertices, source_of, vertices};
+ghost use Rattle.residual.specs.Reach.{Reached};
+
+use super::Marker;
+use crate::arcs::MAX_VERTICES;
+use crate::graph::ResidualGraph;
+use crate::queue::Queue;
+use std::alloc::{AllocError, Global};
+
+impl Marker {
+    // The memory for every flow network within the limits, or an error where there is none.
+    pub fn new(heap: Global) -> Result<Marker, AllocError>
+        ensures { IfOk result (λ marker. vec_len marker.seen ≡ max_vertices) }
+    {
+        Ok(Marker {
+            seen: vec![in heap; false; MAX_VERTICES]?,
+            slots: vec![in heap; 0; MAX_VERTICES]?,
+        })
+    }
+
+    // Marks the smallest minimum cut, once no more can be sent: the nodes that the source still reaches.
+    pub fn mark(&mut self, graph: &ResidualGraph, marks: &mut [u8])
+        requires { length marks.old ≡ graph.now.nodes }
+        ensures { (net : Flow) (sent : ℕ) → cut_refusal net (length marks.old) ≡ None → Finished net graph.now.arcs.items sent → Solved net marks.new sent }
+    {
+        reach(graph, self.seen.as_mut_slice(), self.slots.as_mut_slice());
+        self.write(marks);
+    }
+
+    // Writes 1 for each node that was reached, and 0 for every other.
+    // (By index, since of a zip with `iter_mut` the check does not learn what was written.)
+    fn write(&self, marks: &mut [u8])
+        requires { length marks.old ≤ max_vertices }
+        ensures { (v : ℕ) → v < length marks.new → slice_index marks.new v ≡ (if slice_index_or self.now.seen.items v false then 1 else 0) }
+    {
+        for (node, mark) in marks.iter_mut().enumerate() {
+            *mark = u8::from(self.seen[node]);
+        }
+    }
+}
+
+// Finds the vertices that the source reaches over arcs with residual capacity.
+// (Of lent slices: a queue borrows its slots until it goes, and a proof then loses the length of a `Vec` behind them.)
+fn reach(graph: &ResidualGraph, seen: &mut [bool], slots: &mut [usize])
+    requires long { vertices graph.now.nodes ≤ length seen.old }
+    requires slots { vertices graph.now.nodes ≤ length slots.old }
+    ensures { Reached graph.now.arcs.items (source_of graph.now.nodes) (λ v. slice_index_or seen.new v false) }
+{
+    seen.fill(false);
+    let source = graph.source();
+    seen[source] = true;
+    let mut queue = Queue::new(slots);
+    queue.push(source).unwrap();
+    while let Some(vertex) = queue.pop() {
+        for (_, arc) in graph.leaving(vertex) {
+            if arc.is_open() && !seen[arc.to] {
+                seen[arc.to] = true;
+                queue.push(arc.to).unwrap();
+            }
+        }
+    }
+}
