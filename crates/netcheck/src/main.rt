@@ -5,7 +5,7 @@ ghost use Rattle.std.specs.Prelude.{◌≡◌, Ok, Err, MatchResult};
 ghost use Rattle.netfile.specs.Meaning.{meaning};
 ghost use Rattle.network.specs.View.{view};
 
-use anyhow::anyhow;
+use anyhow::{Context, bail};
 use faults::fault::Fault;
 use netfile::file::read;
 use network::network::Network;
@@ -52,15 +52,6 @@ fn help(rt: &impl Print) -> io::Result<()> {
     println!(rt; "or why it is refused, and then ends with status 1.")
 }
 
-// Checks the file of this name. Why it is refused, or cannot be read, goes to standard error.
-fn report(rt: &HostRuntime, path: &str) -> anyhow::Result<()> {
-    let result = check(rt, path);
-    if let Err(error) = &result {
-        eprintln!(rt; "netcheck: {path}: {error}")?;
-    }
-    result
-}
-
 fn run(rt: &HostRuntime) -> anyhow::Result<()> {
     let mut args = env::args(rt)?;
     let named = args.nth(1);
@@ -70,18 +61,16 @@ fn run(rt: &HostRuntime) -> anyhow::Result<()> {
             help(rt)?;
             Ok(())
         }
-        Some(path) if more.is_none() => report(rt, path.as_str()),
-        _ => {
-            eprintln!(rt; "netcheck: name one file; netcheck --help says more")?;
-            Err(anyhow!("name one file"))
-        }
+        Some(path) if more.is_none() => { check(rt, path.as_str()).context(format_args!("{path}")) }
+        _ => bail!("name one file; netcheck --help says more"),
     }
 }
 
-// What is wrong with the call or the file was printed before, so the error is not printed again.
+// Why the file is refused or cannot be read, or what is wrong with the call, goes to standard error.
 fn main(rt: HostRuntime) -> ExitCode {
-    match run(&rt) {
-        Ok(()) => ExitCode::SUCCESS,
-        Err(_) => ExitCode::FAILURE,
-    }
+    let Err(error) = run(&rt) else {
+        return ExitCode::SUCCESS;
+    };
+    let _ = eprintln!(rt; "netcheck: {error:#}");
+    ExitCode::FAILURE
 }

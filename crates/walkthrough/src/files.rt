@@ -3,6 +3,7 @@ ghost use Rattle.std.specs.Prelude.{◌≡◌, ◌≤◌, length, IfOk, OnOk};
 ghost use Rattle.netfile.specs.Answers.{after_read, after_write, write_answer};
 ghost use Rattle.network.specs.View.{view};
 
+use crate::answer::{Done, tell};
 use faults::fault::Fault;
 use netfile::file::{read, write};
 use network::network::Network;
@@ -39,10 +40,8 @@ fn copy_by_file(town: &Network, file: &mut [u8], copy: &mut Network) -> Result<u
 fn try_read(rt: &impl Print, network: &mut Network, file: &[u8], what: &str) -> io::Result<()>
     ensures { view network.new ≡ after_read file.now (view network.old) }
 {
-    match read(file, network) {
-        Ok(()) => println!(rt; "read {what}: done"),
-        Err(fault) => println!(rt; "read {what}: refused, {fault}"),
-    }
+    let answer = read(file, network).map(|()| Done::Changed);
+    tell(rt, &format_args!("read {what}"), answer)
 }
 
 // Writes the network into the buffer, and prints how it went.
@@ -50,10 +49,12 @@ fn try_write(rt: &impl Print, network: &Network, out: &mut [u8]) -> io::Result<(
     ensures { out.new ≡ after_write (view network.now) out.old }
 {
     let room = out.len();
-    match write(network, out) {
-        Ok(size) => println!(rt; "write the town into {room} bytes: {size} bytes"),
-        Err(fault) => println!(rt; "write the town into {room} bytes: refused, {fault}"),
-    }
+    let answer = write(network, out).map(Done::Bytes);
+    tell(
+        rt,
+        &format_args!("write the town into {room} bytes"),
+        answer,
+    )
 }
 
 // Prints the bytes, 16 to a line.

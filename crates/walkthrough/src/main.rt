@@ -3,12 +3,16 @@
 
 ghost use Rattle.std.specs.Prelude.{◌≡◌};
 ghost use Rattle.network.specs.Edits.{after_edit};
-ghost use Rattle.network.specs.Edits.Edit.{add, join, remove, weigh};
 ghost use Rattle.network.specs.View.{view};
+ghost use Rattle.walkthrough.specs.Edits.{edit_of};
 
+use crate::answer::tell;
+use crate::edit::Edit;
 use network::network::Network;
 use std::{env, fmt, io};
 
+mod answer;
+mod edit;
 mod files;
 
 // A set of nodes, printed as its marks.
@@ -26,66 +30,53 @@ impl fmt::Display for District<'_> {
     }
 }
 
-fn add_node(rt: &impl Print, town: &mut Network, weight: u32) -> io::Result<()>
-    ensures { view town.new ≡ after_edit (view town.old) (add weight) }
+// Makes an edit, and prints it with its answer.
+// (The runtime stays a parameter beside the town, as in every function that prints.)
+fn make(rt: &impl Print, town: &mut Network, edit: Edit) -> io::Result<()>
+    ensures { view town.new ≡ after_edit (view town.old) (edit_of edit) }
 {
-    match town.add_node(weight) {
-        Ok(node) => println!(rt; "add a node of weight {weight}: node {node}"),
-        Err(fault) => println!(rt; "add a node of weight {weight}: refused, {fault}"),
-    }
+    tell(rt, &edit, edit.apply(town))
 }
 
-fn weigh(rt: &impl Print, town: &mut Network, node: usize, weight: u32) -> io::Result<()>
-    ensures { view town.new ≡ after_edit (view town.old) (weigh node weight) }
-{
-    match town.weigh(node, weight) {
-        Ok(()) => println!(rt; "give node {node} the weight {weight}: done"),
-        Err(fault) => println!(rt; "give node {node} the weight {weight}: refused, {fault}"),
-    }
-}
-
-fn join(
+// Lays a pipe at this cost between the nodes of each pair.
+fn join_all(
     rt: &impl Print,
     town: &mut Network,
-    first: usize,
-    second: usize,
+    ends: &[(usize, usize)],
     cost: u32,
-) -> io::Result<()>
-    ensures { view town.new ≡ after_edit (view town.old) (join first second cost) }
-{
-    match town.join(first, second, cost) {
-        Ok(pipe) => println!(rt; "join nodes {first} and {second} at cost {cost}: pipe {pipe}"),
-        Err(fault) => println!(rt;
-            "join nodes {first} and {second} at cost {cost}: refused, {fault}"
-        ),
+) -> io::Result<()> {
+    for (first, second) in ends {
+        make(
+            rt,
+            town,
+            Edit::Join {
+                first: *first,
+                second: *second,
+                cost,
+            },
+        )?;
     }
-}
-
-fn remove(rt: &impl Print, town: &mut Network, pipe: usize) -> io::Result<()>
-    ensures { view town.new ≡ after_edit (view town.old) (remove pipe) }
-{
-    match town.remove(pipe) {
-        Ok(()) => println!(rt; "remove pipe {pipe}: done"),
-        Err(fault) => println!(rt; "remove pipe {pipe}: refused, {fault}"),
-    }
+    Ok(())
 }
 
 // Two triangles of pipes that cost 3, joined by a pipe that costs 1, with some slips on the way.
 fn build(rt: &impl Print, town: &mut Network) -> io::Result<()> {
-    for _ in 0..5 {
-        add_node(rt, town, 1)?;
+    for weight in [1, 1, 1, 1, 1, 4_001, 10] {
+        make(rt, town, Edit::Add { weight })?;
     }
-    add_node(rt, town, 4_001)?;
-    add_node(rt, town, 10)?;
-    weigh(rt, town, 5, 1)?;
-    for (first, second) in [(0, 1), (1, 2), (0, 2), (3, 4), (4, 5), (3, 5)] {
-        join(rt, town, first, second, 3)?;
+    make(rt, town, Edit::Weigh { node: 5, weight: 1 })?;
+    join_all(
+        rt,
+        town,
+        &[(0, 1), (1, 2), (0, 2), (3, 4), (4, 5), (3, 5)],
+        3,
+    )?;
+    join_all(rt, town, &[(0, 4)], 2)?;
+    join_all(rt, town, &[(2, 3), (2, 6)], 1)?;
+    for pipe in [6, 7] {
+        make(rt, town, Edit::Remove { pipe })?;
     }
-    join(rt, town, 0, 4, 2)?;
-    join(rt, town, 2, 3, 1)?;
-    join(rt, town, 2, 6, 1)?;
-    remove(rt, town, 6)?;
-    remove(rt, town, 7)
+    Ok(())
 }
 
 // Prints what a proposed district comes to.
