@@ -3,6 +3,8 @@
 #![tactic(auto)]
 
 #[cfg(test)]
+mod minimum_cuts;
+#[cfg(test)]
 mod network_edits;
 #[cfg(test)]
 mod network_file;

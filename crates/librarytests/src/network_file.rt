@@ -83,14 +83,17 @@ fn a_changed_byte_is_refused_at_its_place(rt: HostRuntime) -> Result<(), Fail> {
 fn the_first_fault_is_reported(rt: HostRuntime) -> Result<(), Fail> {
     let mut network = single(&rt, rt.alloc())?;
     let both_weights = [0x44, 0x5A, 0x4E, 0, 1, 2, 0, 0, 0, 0, 0, 0];
-    let fault = Fault::of(Layer::File, Refusal::WeightOutOfRange).at(8);
-    assert_eq!(rt; read(&both_weights, &mut network), Err(fault));
     let ends_and_cost = [0x44, 0x5A, 0x4E, 0, 1, 1, 0, 1, 0, 1, 0, 0, 0, 0];
-    let fault = Fault::of(Layer::File, Refusal::BadNodeOrPipe).at(10);
-    assert_eq!(rt; read(&ends_and_cost, &mut network), Err(fault));
     let nodes_and_pipes = [0x44, 0x5A, 0x4E, 0, 1, 129, 2, 1];
-    let fault = Fault::of(Layer::File, Refusal::TooManyNodesOrPipes).at(5);
-    assert_eq!(rt; read(&nodes_and_pipes, &mut network), Err(fault));
+    let cases = [
+        (both_weights.as_slice(), Refusal::WeightOutOfRange, 8),
+        (ends_and_cost.as_slice(), Refusal::BadNodeOrPipe, 10),
+        (nodes_and_pipes.as_slice(), Refusal::TooManyNodesOrPipes, 5),
+    ];
+    for (file, refusal, place) in cases {
+        let fault = Fault::of(Layer::File, refusal).at(place);
+        assert_eq!(rt; read(file, &mut network), Err(fault));
+    }
     Ok(())
 }
 
