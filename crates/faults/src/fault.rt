@@ -10,6 +10,7 @@ use std::fmt;
 
 // What a call that refuses answers: why, in which layer, and where.
 // The place is 0 unless a rule of the call says otherwise.
+// (No `Option`: the rules give every fault a place, and 0 where there is none of its own.)
 #[derive(Clone, Copy, PartialEq, Eq, Debug)]
 pub struct Fault {
     pub refusal: Refusal,

@@ -1,8 +1,12 @@
--- The loops that test a flow network, and what holds of one that no solver refuses.
+-- The sum that tests a flow network, and what holds of one that no solver refuses.
 -- Assumes nothing.
-use Rattle.std.proofs.Common.{◌≡◌, ℕ, zero, suc, ◌+◌, ◌<◌, ◌≤◌, min, false, List, [], ◌∷◌, length, get_or, take, None, sum_by, ap, ◌∙◌, arith}
-use Rattle.std.proofs.lemmas.List.{take_all}
-use Rattle.std.proofs.lemmas.List.Sums.{sum_by_more}
+use Rattle.std.proofs.Common.{◌≡◌, ℕ, zero, suc, ◌+◌, ◌<◌, ◌≤◌, min, false, List, [], ◌∷◌, length, get_or, map, None, Option, ap, sym, subst, ◌∙◌, arith, refl}
+use Rattle.std.specs.Fn.{Called, Mut}
+use Rattle.std.specs.Iterator.Adapters.{map_source, map_callee, map_steps}
+use Rattle.std.specs.List.{Contains, fold}
+use Rattle.std.specs.declared.iter.Map.{Map}
+use Rattle.std.proofs.lemmas.Iterator.{YieldsList}
+use Rattle.std.proofs.lemmas.List.Elements.{Contains-append_right}
 use Rattle.std.proofs.lemmas.Bool.{eqb-false, eqb-true, leb-false, ltb-false, not-false, or_parts}
 use Rattle.network.proofs.Accepting.{passed}
 use Rattle.network.specs.Limits.{max_nodes, max_pipes}
@@ -11,16 +15,26 @@ use Rattle.mincut.specs.Flow.{Flow, bad_pipe, some_bad_pipe, total_capacity}
 use Rattle.network.specs.Limits.{no_pipe}
 use Rattle.mincut.specs.Solver.{cut_refusal, max_capacity, misshapen}
 
--- a sum that stops at m, of the first i elements
-abbrev pub Capped : {X : Type 0} → (X → ℕ) → ℕ → List X → ℕ → ℕ → Type 0
-Capped f m xs i s = s ≡ min (sum_by f (take i xs)) m
+-- to stop at m after each element is to stop at m at the end
+pub capped : {X : Type 0} (f : X → ℕ) (m a : ℕ) (xs : List X) → fold (λ s x. min (s + x) m) (min a m) (map f xs) ≡ min (fold (λ s x. s + f x) a xs) m
+capped f m a [] = refl
+capped f m a (x ∷ xs) =
+    let e : min (min a m + f x) m ≡ min (a + f x) m = omega arith in
+    ap (λ s. fold (λ s x. min (s + x) m) s (map f xs)) e ∙ capped f m (a + f x) xs
 
-module _ {X : Type 0} (f : X → ℕ) (m : ℕ) (xs : List X) where
-  pub capped_more : (i s t : ℕ) (d : X) → i < length xs → Capped f m xs i s → t ≡ min (s + f (get_or xs i d)) m → Capped f m xs (i + 1) t
-  capped_more i s t d h inv e = omega (arith, sum_by_more f xs i d h)
-
-  pub capped_all : (i s : ℕ) → length xs ≤ i → Capped f m xs i s → s ≡ min (sum_by f xs) m
-  capped_all i s h inv = inv ∙ ap (λ (l : List X). min (sum_by f l) m) (take_all i xs h)
+-- what `map` gives over ys, where the closure gives h of an element of ys
+pub mapped : {S A B F R : Type 0} {steps : S → Option A → S → Type 0} {v : A → B} (g : Mut F (A × Unit {0}) R) (h : B → R) {f : F} (ys : List B) {s : Map S F} → YieldsList steps v (map_source s) ys → map_callee s ≡ f
+    → ((x : A) (r : R) (q : F) → Contains ys (v x) → Called g f (x, tt) r q → (q ≡ f) × (r ≡ h (v x))) → YieldsList (map_steps steps g) (λ r. r) s (map h ys)
+mapped g h [] e a k = record { runs = λ y j p. e.runs p.0 (map_source j) p.1 }
+mapped {steps = steps} {v = v} g h (z ∷ ys) e a k = record {
+  runs = (
+    (λ j p. e.runs.0 (map_source j) p.0),
+    λ y j p.
+        let n = e.runs.1 p.0 (map_source j) p.1 in
+        let m = k p.0 y (map_callee j) (0, omega arith, sym n.0) (subst (λ w. Called g w (p.0, tt) y (map_callee j)) a p.2) in
+        (m.1 ∙ ap h n.0, (mapped {steps = steps} g h ys {s = j} (record { runs = n.1 }) m.0 (λ x r q i. k x r q (Contains-append_right (z ∷ []) ys (v x) i))).runs),
+  );
+}
 
 -- the ends of the pipe are two different nodes of the n that there are
 abbrev pub GoodPipe : ℕ → Pipe ℕ → Type 0

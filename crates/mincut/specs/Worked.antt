@@ -4,12 +4,9 @@ use Rattle.std.specs.Prelude.{◌≡◌, ℕ, ◌^◌, [], ◌∷◌, Some, None
 use Rattle.faults.specs.Faults.{solver_fault}
 use Rattle.faults.specs.declared.refusal.Refusal.TheVariants.{BadFlowNetwork, CapacityTooLarge}
 use Rattle.network.specs.Net.{set_of}
-use Rattle.network.specs.declared.pipe.Pipe.{Pipe}
+use Rattle.network.specs.Worked.{pipe}
 use Rattle.mincut.specs.Flow.{Flow, MinimumCut, SmallestCut, capacity}
 use Rattle.mincut.specs.Solver.{cut_refusal}
-
-abbrev pub pipe : ℕ → ℕ → ℕ → Pipe ℕ
-pipe a b c = record { first = a; second = b; cost = c }
 
 -- four nodes in a line
 abbrev pub line : Flow

@@ -78,10 +78,8 @@ fn saturating_sum<T, F: Fn(&T) -> u64>(items: &[T], capacity: F) -> u64
     requires { F.IsAlwaysCallable capacity }
     ensures { (amount : T → ℕ) → Measures (FnReturnsAt F.Fn capacity) items.now amount → result ≡ min (sum_by amount items.now) (2 ^ 64 - 1) }
 {
-    // A loop, since of a chain that calls `capacity` the check does not find the sum.
-    let mut sum = 0u64;
-    for item in items {
-        sum = sum.saturating_add(capacity(item));
-    }
-    sum
+    items
+        .iter()
+        .map(capacity)
+        .fold(0, |sum: u64, amount| sum.saturating_add(amount))
 }

@@ -42,16 +42,13 @@ pub(crate) fn file_fault(refusal: Refusal, place: usize) -> Fault
 }
 
 // The first of bytes 0 to 2 that is not the mark's, or else the file's length.
-// (By patterns, since they show the cases one by one; the position in a zip with the mark is no plainer.)
 fn mark_place(file: &[u8]) -> usize
     ensures { result ≡ mark_place file.now }
 {
-    match file {
-        [] | [b'D'] | [b'D', b'Z'] | [b'D', b'Z', b'N', ..] => file.len(),
-        [b'D', b'Z', ..] => 2,
-        [b'D', ..] => 1,
-        [..] => 0,
-    }
+    file.iter()
+        .zip(b"DZN")
+        .position(|(byte, mark)| byte != mark)
+        .unwrap_or(file.len())
 }
 
 impl<'a> Records<'a> {

@@ -19,7 +19,8 @@ pub(crate) const NODE_SIZE: usize = 2;
 
 pub(crate) const PIPE_SIZE: usize = 4;
 
-// Where the record of this index begins, where each has so many bytes and the first begins at this place.
+// Where the record of this index begins, where each has so many bytes and the first begins at this place. The bound is far
+// above the length of any file, and keeps the sum within 64 bits.
 pub(crate) fn record_place<const SIZE: usize>(start: usize, index: usize) -> usize
     requires { start + SIZE * index < 2 ^ 32 }
     ensures { result ≡ start + SIZE * index }

@@ -13,6 +13,7 @@ use network::network::Network;
 use network::pipe::Pipe;
 
 // Writes the bytes over those of the buffer from this place on.
+// (That there is room stands in each contract here, since the buffer is the caller's, of any length.)
 fn put(out: &mut [u8], place: usize, bytes: &[u8])
     requires { place + length bytes.now ≤ length out.old }
     ensures { out.new ≡ overwritten out.old place bytes.now }
@@ -32,6 +33,7 @@ fn put_header(out: &mut [u8], counts: Counts)
 }
 
 // Writes the record of each value, from this place of the buffer on.
+// (By the index of each value: a zip with pieces of the buffer was tried, and its proof did not close.)
 fn put_records<const SIZE: usize, R: Record<SIZE>>(out: &mut [u8], start: usize, values: &[R])
     requires room { start + SIZE * length values.now ≤ length out.old }
     requires short { start + SIZE * length values.now < 2 ^ 32 }

@@ -5,8 +5,8 @@ use Rattle.network.specs.Net.{Net, Nodes, set_of}
 use Rattle.network.specs.View.{view}
 
 -- the network of the set
-abbrev pub net_of : NodeSet → Net
-net_of s = view s.network.now
+abbrev pub network_of : NodeSet → Net
+network_of s = view s.network.now
 
 -- the nodes in the set
 abbrev pub nodes_of : NodeSet → Nodes

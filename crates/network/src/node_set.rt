@@ -20,7 +20,7 @@ impl<'a> NodeSet<'a> {
     ghost use Rattle.network.specs.Answers.{misfit};
     ghost use Rattle.network.specs.Net.{adds, boundary, complement, lighter, weight};
     ghost use Rattle.network.specs.Scores.{denominator};
-    ghost use Rattle.network.specs.Sets.{net_of, nodes_of};
+    ghost use Rattle.network.specs.Sets.{network_of, nodes_of};
     ghost use Rattle.network.specs.View.{view};
 
     // The set that the marks stand for. Marks that do not fit the network are refused.
@@ -42,14 +42,14 @@ impl<'a> NodeSet<'a> {
 
     // The weight of the set.
     pub(crate) fn weight(&self) -> u32
-        ensures { result ≡ weight (net_of self.now) (nodes_of self.now) }
+        ensures { result ≡ weight (network_of self.now) (nodes_of self.now) }
     {
         self.network.weight_where(|node| self.has(node))
     }
 
     // The weight of the nodes outside the set.
     pub(crate) fn rest(&self) -> u32
-        ensures { result ≡ weight (net_of self.now) (complement (nodes_of self.now)) }
+        ensures { result ≡ weight (network_of self.now) (complement (nodes_of self.now)) }
     {
         self.network.weight_where(|node| !self.has(node))
     }
@@ -57,7 +57,7 @@ impl<'a> NodeSet<'a> {
     // The weight of the lighter of the two sides.
     #[tactic(auto, unfolding(crate::specs::Net::lighter))]
     pub(crate) fn lighter_side(&self) -> u32
-        ensures { result ≡ lighter (net_of self.now) (nodes_of self.now) }
+        ensures { result ≡ lighter (network_of self.now) (nodes_of self.now) }
     {
         self.weight().min(self.rest())
     }
@@ -76,7 +76,7 @@ impl<'a> NodeSet<'a> {
     // The summed cost of the pipes with exactly one end in the set.
     #[tactic(auto, unfolding(crate::specs::Net::cost_across))]
     pub(crate) fn boundary(&self) -> u32
-        ensures { result ≡ boundary (net_of self.now) (nodes_of self.now) }
+        ensures { result ≡ boundary (network_of self.now) (nodes_of self.now) }
     {
         self.network
             .pipes()
@@ -88,7 +88,7 @@ impl<'a> NodeSet<'a> {
     // The denominator of the set relative to the proposal.
     #[tactic(auto, using(crate::proofs::Products::product_fits))]
     pub(crate) fn denominator(&self, proposal: &NodeSet) -> i64
-        ensures { result ≡ denominator (net_of self.now) (nodes_of proposal.now) (nodes_of self.now) }
+        ensures { result ≡ denominator (network_of self.now) (nodes_of proposal.now) (nodes_of self.now) }
     {
         let network = self.network;
         let proposed = network.weight_where(|node| proposal.has(node));

@@ -10,11 +10,11 @@ use Rattle.residual.specs.Reach.{Blocked}
 use Rattle.residual.specs.Star.{latest}
 use Rattle.residual.specs.Waiting.{room, waiting}
 use Rattle.residual.proofs.Frontier.{count_room, grown_here, grown_other}
-use Rattle.residual.proofs.Searching.{Among, Between, Gone, Popped, Queued, comes_to_end, first_under, fitted, goes_on, goes_past, sets_out, slot_for, slot_left, turns_back, turns_to}
+use Rattle.residual.proofs.Searching.{Among, Between, Gone, Popped, Queued, comes_to_end, fitted, goes_on, goes_past, sets_out, slot_for, slot_left, turns_back, turns_to}
 use Rattle.pathsolver.specs.declared.step.Step.{Step}
 use Rattle.pathsolver.specs.Onward.{onward}
-use Rattle.pathsolver.specs.Steps.{Found, Visits, visit_at, visited}
-use Rattle.pathsolver.proofs.Visiting.{Paths, at_here, at_still, found, grown, paths_on, paths_start}
+use Rattle.pathsolver.specs.Steps.{Visits, visit_at, visited}
+use Rattle.pathsolver.proofs.Visiting.{Paths, at_here, at_still, grown, paths_on, paths_start}
 
 abbrev vertex : Step → ℕ
 vertex s = s.vertex
@@ -59,9 +59,6 @@ module _ {arcs : List Arc} {n source sink : ℕ} where
       }
 
   module _ {visits : Visits} where
-    pub step_under : {q q' : Queue Step} {x : Step} → Popped q q' x → Outside arcs n source sink visits q → x.vertex < n
-    step_under p o = first_under vertex arcs p o.between
-
     pub opens : {q q' : Queue Step} {x : Step} (next : Option ℕ) → next ≡ latest arcs x.vertex (length arcs) → Popped q q' x → Outside arcs n source sink visits q
         → Inside arcs n source sink visits q' q' x next
     opens {q} {q'} {x} next e p o =
@@ -86,9 +83,6 @@ module _ {arcs : List Arc} {n source sink : ℕ} where
 
           pub arrived : Paths arcs n source (set visits (arc_at arcs k).to (Some s))
           arrived = paths_on arcs n source visits step k i.paths i.here i.among.frontier.next_is.0 i.among.frontier.next_is.1 to i.long new pos
-
-          pub lands : (arc_at arcs k).to ≡ sink → Found (set visits (arc_at arcs k).to (Some s)) sink s
-          lands e = found visits (arc_at arcs k).to s sink (omega (arith, i.long)) arrived e
 
           pub visits_on : {q' : Queue Step} {r : Bool} → sink ≢ (arc_at arcs k).to → Queued q q' s r → Inside arcs n source sink (set visits (arc_at arcs k).to (Some s)) q₀ q' step (Some k)
           visits_on {q'} ne p =
@@ -145,11 +139,6 @@ module _ {arcs : List Arc} {n source sink : ℕ} {visits : Visits} {q₀ q : Que
 
         pub paths_to : Paths arcs n source (set visits a.to (Some (onward step k a)))
         paths_to = subst (λ (b : Arc). Paths arcs n source (set visits b.to (Some (onward step k b)))) (sym gone.arc) (arrived inside_at to_at new_at pos_at)
-
-        pub found_at : a.to ≡ sink → Found (set visits a.to (Some (onward step k a))) sink (onward step k a)
-        found_at e =
-            subst (λ (b : Arc). Found (set visits b.to (Some (onward step k b))) sink (onward step k b)) (sym gone.arc)
-            (lands inside_at to_at new_at pos_at (sym (ap (λ (b : Arc). b.to) gone.arc) ∙ e))
 
         pub goes_in : {q' : Queue Step} {r : Bool} → sink ≢ a.to → Queued q q' (onward step k a) r → Inside arcs n source sink (set visits a.to (Some (onward step k a))) q₀ q' step later
         goes_in {q'} {r} =

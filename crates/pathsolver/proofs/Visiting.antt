@@ -8,7 +8,7 @@ use Rattle.residual.specs.Arcs.{arc_at}
 use Rattle.residual.proofs.Frontier.{Grown, count, count_more, grown_set}
 use Rattle.pathsolver.specs.declared.step.Step.{Step}
 use Rattle.pathsolver.specs.Onward.{onward}
-use Rattle.pathsolver.specs.Steps.{Follows, Found, Reached, Trail, Visits, visit_at, visited}
+use Rattle.pathsolver.specs.Steps.{Follows, Reached, Trail, Visits, visit_at, visited}
 
 pub same_step : {s t : Step} → Some s ≡ Some t → s ≡ t
 same_step e = cc
@@ -82,10 +82,3 @@ paths_on arcs n source visits b k p at there from lt long new pos =
     let follows : Follows arcs s k b = record { there = there; from = from; to = refl; farther = omega arith; narrower = omega arith; takes = omega arith } in
     paths_more visits (arc_at arcs k).to s (omega arith) new arcs n source lt refl (b, (at, follows)) (omega arith) (omega arith)
     (λ w t e. (p.trail.vertex w t e, p.trail.back w t e)) (λ w t e. (p.wide w t e, p.short w t e))
-
--- the step that reached the sink
-pub found : {arcs : List Arc} {n source : ℕ} (visits : Visits) (v : ℕ) (s : Step) (sink : ℕ) → v < length visits → Paths arcs n source (set visits v (Some s)) → v ≡ sink → Found (set visits v (Some s)) sink s
-found visits v s sink lt p e =
-    let at : visit_at (set visits v (Some s)) v ≡ Some s = get_or-set_same visits v (Some s) None lt in
-    let is = p.trail.vertex v s at in
-    record { vertex = is ∙ e; at = ap (visit_at (set visits v (Some s))) is ∙ at; some = p.wide v s at }

@@ -1,17 +1,16 @@
 -- Sending along the path that was found, from its last arc back to the source.
 -- Assumes nothing.
-use Rattle.std.proofs.Common.{◌≡◌, ℕ, ◌+◌, ◌^◌, ◌<◌, ◌≤◌, ◌≢◌, List, length, Some, None, sym, refl, ap, ◌∙◌, subst, arith}
+use Rattle.std.proofs.Common.{◌≡◌, ℕ, ◌<◌, ◌≤◌, ◌≢◌, List, length, Some, sym, ap, ◌∙◌, subst, arith}
 use Rattle.network.specs.Net.{when}
 use Rattle.residual.specs.declared.arcs.Arc.{Arc}
-use Rattle.residual.specs.Arcs.{Alike, Moved, Paired, Table, arc_at, pushed, reverse}
-use Rattle.residual.proofs.Pushing.{alike_more, alike_same, push_moves, pushed_alike, pushed_others, pushed_small, pushed_total, table_kept}
+use Rattle.residual.specs.Arcs.{Alike, Moved, Table, arc_at, pushed}
+use Rattle.residual.proofs.Pushing.{alike_more, push_moves, pushed_alike, pushed_others}
 use Rattle.pathsolver.specs.declared.step.Step.{Step}
 use Rattle.pathsolver.specs.Steps.{Follows, Reached, Trail, Visits, visit_at}
 use Rattle.pathsolver.proofs.Visiting.{same_step}
 
 -- the table `new` once the room of `found` was sent over the arcs from the vertex of `step` to that of `found`
-pub record Walk (old new : List Arc) (visits : Visits) (n : ℕ) (found step : Step) : Type 0 where
-  pub table : Table new n
+pub record Walk (old new : List Arc) (visits : Visits) (found step : Step) : Type 0 where
   pub alike : Alike old new
   pub here : visit_at visits step.vertex ≡ Some step
   pub narrow : found.room ≤ step.room
@@ -23,55 +22,26 @@ before : {arcs : List Arc} {visits : Visits} {source : ℕ} → Trail arcs visit
     → (b : Step) × ((visit_at visits b.vertex ≡ Some b) × Follows arcs s k b)
 before {arcs} {visits} {source} trail s k at via = subst (Reached arcs visits source s) via (trail.back s.vertex s at)
 
-pub sets_out : (arcs : List Arc) (visits : Visits) (n source : ℕ) (found : Step) → Table arcs n → Trail arcs visits source → visit_at visits found.vertex ≡ Some found
-    → Walk arcs arcs visits n found found
-sets_out arcs visits n source found table trail at = record {
-  table = table;
-  alike = alike_same arcs;
-  here = at;
-  narrow = omega arith;
-  takes = λ s k e via _. (before trail s k e via).1.1.takes;
-  moved = λ X. refl;
-}
-
--- the walk has come to the source
-pub comes_back : {old new : List Arc} {visits : Visits} {n source sink : ℕ} {found step : Step} → Walk old new visits n found step → Trail old visits source → step.via ≡ None
-    → found.vertex ≡ sink → Moved old new source sink found.room
-comes_back {old} {new} {visits} {source = source} {found = found} {step} walk trail via is =
-    let at : step.vertex ≡ source = subst (Reached old visits source step) via (trail.back step.vertex step walk.here) in
-    λ X. omega (arith, walk.moved X, ap (λ (v : ℕ). when (X v) found.room) at, ap (λ (v : ℕ). when (X v) found.room) is)
-
 -- one arc further back
-pub record Back (old new : List Arc) (visits : Visits) (n : ℕ) (found step : Step) (k : ℕ) : Type 0 where
-  pub there : k < length new
-  pub paired : Paired new k
-  pub room : found.room ≤ (arc_at new k).remaining
-  pub fits : (arc_at new (reverse k)).remaining + found.room < 2 ^ 64
+pub record Back (old new : List Arc) (visits : Visits) (found step : Step) (k : ℕ) : Type 0 where
   pub step_before : Step
-  pub at : visit_at visits (arc_at new k).from ≡ Some step_before
-  pub nearer : step_before.distance < step.distance
-  pub walk : Walk old (pushed new k found.room) visits n found step_before
+  pub at : (a : Arc) → a ≡ arc_at new k → visit_at visits a.from ≡ Some step_before
+  pub walk : Walk old (pushed new k found.room) visits found step_before
 
-pub goes_back : {old new : List Arc} {visits : Visits} {n source : ℕ} {found step : Step} (k : ℕ) → Walk old new visits n found step → Trail old visits source → step.via ≡ Some k
-    → Back old new visits n found step k
-goes_back {old} {new} {visits} {n} {source} {found} {step} k walk trail via =
+pub goes_back : {old new : List Arc} {visits : Visits} {n source : ℕ} {found step : Step} (k : ℕ) → Table new n → Walk old new visits found step → Trail old visits source → step.via ≡ Some k
+    → Back old new visits found step k
+goes_back {old} {new} {visits} {n} {source} {found} {step} k table walk trail via =
     let (b, (at, f)) = before trail step k walk.here via in
     let there : k < length new = omega (arith, f.there, walk.alike.long) in
     let room : found.room ≤ (arc_at new k).remaining = omega (arith, walk.narrow, walk.takes step k walk.here via (omega arith)) in
-    let paired = walk.table.paired k there in
+    let paired = table.paired k there in
     let from : (arc_at new k).from ≡ b.vertex = walk.alike.from k ∙ f.from in
     let to : (arc_at new k).to ≡ step.vertex = walk.alike.to k ∙ f.to in
     let d : ℕ = found.room in
     record {
-      there = there;
-      paired = paired;
-      room = room;
-      fits = pushed_small new k found.room there paired.there room walk.table.small;
       step_before = b;
-      at = ap (visit_at visits) from ∙ at;
-      nearer = f.farther;
+      at = λ a e. ap (λ (x : Arc). visit_at visits x.from) e ∙ ap (visit_at visits) from ∙ at;
       walk = record {
-        table = table_kept new (pushed new k d) n (pushed_alike new k d) (pushed_total new k d there paired.there room) walk.table;
         alike = alike_more walk.alike (pushed_alike new k d);
         here = at;
         narrow = omega (arith, walk.narrow, f.narrower);

@@ -6,8 +6,8 @@ use crate::step::Step;
 mod sends;
 
 // The memory of the search for shortest paths, reserved once for the largest flow network.
-// `visits` has for each vertex the step by which it was reached. (A path is followed back along these by the number of
-// an arc, since a solve may not allocate.)
+// `visits` has for each vertex the step by which it was reached.
+// (No one type with `Marker`: a search needs both lists at once, and to lend two parts of a shared type is no plainer.)
 #[derive(Drop)]
 pub(crate) struct PathSearch {
     visits: Vec<Option<Step>>,

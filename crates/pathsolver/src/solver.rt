@@ -1,10 +1,11 @@
-ghost use Rattle.std.specs.Prelude.{◌≡◌, ◌≤◌, length, IfOk, None, vec_capacity};
-ghost use Rattle.mincut.specs.Solver.{cut_refusal, Solved};
+ghost use Rattle.std.specs.Prelude.{◌≡◌, ◌≤◌, length, IfOk, vec_capacity};
+ghost use Rattle.mincut.specs.Solver.{Solved};
 ghost use Rattle.mincut.specs.View.{flow_of};
 ghost use Rattle.residual.specs.Laid.{max_arcs};
 
 use crate::paths::PathSearch;
 use faults::fault::Fault;
+use mincut::accepted::AcceptedNetwork;
 use mincut::flow::FlowNetwork;
 use mincut::solver::MinCut;
 use residual::graph::ResidualGraph;
@@ -32,11 +33,11 @@ impl PathSolver {
     }
 
     // Solves a flow network that no solver refuses.
-    fn solve(&mut self, network: FlowNetwork<'_>, marks: &mut [u8]) -> u64
-        requires { cut_refusal (flow_of network) (length marks.old) ≡ None }
-        ensures { Solved (flow_of network.entry) marks.new result }
+    fn solve(&mut self, accepted: AcceptedNetwork<'_>, marks: &mut [u8]) -> u64
+        requires { accepted.network.nodes ≡ length marks.old }
+        ensures { Solved (flow_of accepted.entry.network) marks.new result }
     {
-        self.graph.lay(network);
+        self.graph.lay(accepted);
         let sent = self.search.send(&mut self.graph);
         self.marker.mark(&self.graph, marks);
         sent
@@ -45,7 +46,7 @@ impl PathSolver {
 
 impl MinCut for PathSolver {
     fn cut(&mut self, network: FlowNetwork<'_>, marks: &mut [u8]) -> Result<u64, Fault> {
-        network.check(marks.len())?;
-        Ok(self.solve(network, marks))
+        let accepted = AcceptedNetwork::new(network, marks.len())?;
+        Ok(self.solve(accepted, marks))
     }
 }

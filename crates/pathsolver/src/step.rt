@@ -5,6 +5,7 @@ use residual::arcs::Arc;
 
 // A step of the search: a vertex, the arc by which it was reached (the source by none), how many arcs the path to it
 // has, and how much can be sent along the whole path.
+// (The arc by its number, and the step before by the arc's vertex, since a solve may not allocate.)
 #[derive(Clone, Copy)]
 pub struct Step {
     pub(crate) vertex: usize,

@@ -24,9 +24,6 @@ set_kept f xs j z e k =
     (λ le. ap (λ l. f (arc_at l k)) (set_past xs j z le)) (cases_lt j (length xs)))
     (λ ne. ap f (get_or-set_other xs j k z no_arc ne)) (cases_eq k j)
 
-pub alike_same : (arcs : List Arc) → Alike arcs arcs
-alike_same arcs = record { long = refl; from = λ k. refl; to = λ k. refl }
-
 pub alike_more : {a b c : List Arc} → Alike a b → Alike b c → Alike a c
 alike_more s t = record {
   long = t.long ∙ s.long;

@@ -5,7 +5,6 @@ use lib.ListN.{length-replicate}
 use Rattle.std.proofs.lemmas.List.{get_or_past, get_or-replicate, map_push}
 use Rattle.std.proofs.lemmas.Bool.{cases_lt, lt-ltb}
 use Rattle.std.specs.Borrow.{Bor}
-use Rattle.std.specs.List.{AllByRecursion}
 use Rattle.residual.specs.declared.arcs.Arc.{Arc}
 use Rattle.residual.specs.declared.graph.ResidualGraph.{ResidualGraph}
 use Rattle.residual.specs.declared.graph.leaving.Leaving.{Leaving}
@@ -112,10 +111,6 @@ module _ {X : Type 0} (f : X → ℕ) (arcs : List Arc) where
       head = refl;
       same = refl;
     }
-
-    -- what waits first is a vertex
-    pub first_under : {q q' : Queue X} {x : X} → Popped q q' x → Between n source R q → f x < n
-    first_under {x = x} p b = b.frontier.base.under (f x) (subst (λ (l : List X). AllByRecursion (λ w. R w ≡ true) (map f l)) p.next b.frontier.base.waits).0
 
     pub goes_past : {q₀ q : Queue X} {u k : ℕ} (next : Option ℕ) → next ≡ latest arcs (arc_at arcs k).from k
         → (0 < (arc_at arcs k).remaining → R (arc_at arcs k).to ≡ true) → Among n source R q₀ q u (Some k) → Among n source R q₀ q u next

@@ -3,6 +3,8 @@ ghost use Rattle.residual.specs.Laid.{max_arcs, max_vertices};
 
 mod lists;
 
+pub use self::lists::index;
+
 // The arcs of each vertex as a list, the latest first: `heads` has the first of each vertex, and `nexts` for each arc
 // the one after it. (The forward star of the network. Lists of their own would have to grow, and a solve may not
 // allocate.)

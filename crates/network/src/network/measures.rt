@@ -12,13 +12,9 @@ impl Network {
         ensures value { (X : Nodes) → Decides (F.post chosen) (count (view self.now)) X → result ≡ weight (view self.now) X }
         ensures bound { result ≤ max_nodes * max_weight }
     {
-        // A loop, since of a chain that calls `chosen` the check finds neither the sum nor its bound.
-        let mut total = 0;
-        for (node, weight) in self.weights.iter().enumerate() {
-            if chosen(node) {
-                total += *weight;
-            }
-        }
-        total
+        self.weights.iter().enumerate().fold(
+            0,
+            |total, (node, weight)| if chosen(node) { total + *weight } else { total },
+        )
     }
 }

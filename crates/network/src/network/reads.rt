@@ -5,7 +5,7 @@ ghost use Rattle.network.specs.View.{view};
 use super::Network;
 use crate::pipe::Pipe;
 
-// (Two calls, since a caller wants the one list or the other, by its name.)
+// (Two calls: one function for both lists would have to be told which, and be no plainer.)
 impl Network {
     // The weight of each node, by its number.
     pub fn weights(&self) -> &[u32]

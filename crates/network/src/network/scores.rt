@@ -9,6 +9,7 @@ use faults::fault::Fault;
 
 impl Network {
     // Refuses marks that are not one for each node, each 0 or 1.
+    // (Marks are bytes and no truth values, since they are a format: another byte is refused with its place.)
     #[tactic(auto, using(crate::proofs::GoodMarks::all_good))]
     pub fn check_marks(&self, marks: &[u8]) -> Result<(), Fault>
         ensures { result ≡ check_answer (view self.now) marks.now }
@@ -39,6 +40,7 @@ impl Network {
     }
 
     // The boundary cost of the marked nodes and the weight of the lighter side. A lighter side of 0 has no score.
+    // (No `Option`: the rules fix the pair, and the boundary is asked for also where there is no score.)
     pub fn quotient(&self, marks: &[u8]) -> Result<(u32, u32), Fault>
         ensures { result ≡ quotient_answer (view self.now) marks.now }
     {

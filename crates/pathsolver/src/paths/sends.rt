@@ -25,12 +25,14 @@ impl PathSearch {
     }
 
     // Sends along shortest paths until there is none left, and answers how much was sent.
+    // (That the nodes stay compares two states of a graph, so no invariant can say it for the three calls here.)
     pub(crate) fn send(&mut self, graph: &mut ResidualGraph) -> u64
         ensures nodes { graph.new.nodes ≡ graph.old.nodes }
         ensures alike { Alike graph.old.arcs.items graph.new.arcs.items }
         ensures identity { let n = graph.old.nodes in Identity (vertices n) (source_of n) graph.old.arcs.items graph.new.arcs.items result (gained nothing (sink_of n) result) }
         ensures blocked { Blocked graph.new.arcs.items (source_of graph.old.nodes) (sink_of graph.old.nodes) }
     {
+        // A loop: `from_fn` and `sum` were tried, and the proof that they end did not close.
         let mut sent = 0;
         while let Some(room) = self.advance(graph) {
             sent += room;
@@ -55,7 +57,7 @@ impl PathSearch {
 }
 
 // Looks for a shortest path with residual capacity, and answers its last step the moment the sink is reached.
-// (Of lent slices: a queue borrows its slots until it goes, and a proof then loses the length of a `Vec` behind them.)
+// (Of lent slices, since the length of a `Vec` is not known after a queue has borrowed its slots.)
 fn search(graph: &ResidualGraph, visits: &mut [Option<Step>], steps: &mut [Step]) -> Option<Step>
     requires long { vertices graph.now.nodes ≤ length visits.old }
     requires slots { vertices graph.now.nodes ≤ length steps.old }

@@ -6,6 +6,7 @@ use super::ResidualGraph;
 mod steps;
 
 // The arcs that leave a vertex and are still to come, from arc `next` on.
+// (An index, as the lists of the graph are: a solve may not allocate others.)
 #[derive(Drop)]
 pub struct Leaving<'a> {
     pub(super) graph: &'a ResidualGraph,

@@ -1,5 +1,4 @@
-ghost use Rattle.std.specs.Prelude.{◌≡◌, [], None, IfOk};
-ghost use Rattle.mincut.specs.Solver.{cut_refusal};
+ghost use Rattle.std.specs.Prelude.{◌≡◌, [], IfOk};
 ghost use Rattle.mincut.specs.View.{flow_of};
 ghost use Rattle.residual.specs.Laid.{Laid, table_of};
 
@@ -7,7 +6,7 @@ use super::ResidualGraph;
 use crate::arcs::MAX_ARCS;
 use crate::laying::lay;
 use crate::star::ForwardStar;
-use mincut::flow::FlowNetwork;
+use mincut::accepted::AcceptedNetwork;
 use std::alloc::{AllocError, Global};
 
 impl ResidualGraph {
@@ -23,14 +22,13 @@ impl ResidualGraph {
     }
 
     // Lays the arcs of a flow network that no solver refuses, and lists those of each vertex.
-    pub fn lay(&mut self, network: FlowNetwork<'_>)
-        requires { cut_refusal (flow_of network) network.nodes ≡ None }
-        ensures nodes { self.new.nodes ≡ network.entry.nodes }
-        ensures items { self.new.arcs.items ≡ table_of (flow_of network.entry) }
-        ensures laid { Laid (flow_of network.entry) self.new.arcs.items }
+    pub fn lay(&mut self, accepted: AcceptedNetwork<'_>)
+        ensures nodes { self.new.nodes ≡ accepted.entry.network.nodes }
+        ensures items { self.new.arcs.items ≡ table_of (flow_of accepted.entry.network) }
+        ensures laid { Laid (flow_of accepted.entry.network) self.new.arcs.items }
     {
-        lay(network, &mut self.arcs);
+        lay(accepted, &mut self.arcs);
         self.star.index(self.arcs.as_slice());
-        self.nodes = network.nodes;
+        self.nodes = accepted.network().nodes;
     }
 }

@@ -12,7 +12,7 @@ impl ResidualGraph {
     pub fn vertices(&self) -> usize
         ensures { result ≡ vertices self.now.nodes }
     {
-        self.nodes + 2
+        self.sink() + 1
     }
 
     // The vertex where all flow starts.
@@ -26,7 +26,7 @@ impl ResidualGraph {
     pub fn sink(&self) -> usize
         ensures { result ≡ sink_of self.now.nodes }
     {
-        self.nodes + 1
+        self.source() + 1
     }
 
     // Arc `k` of the table.

@@ -32,7 +32,7 @@ impl Marker {
     }
 
     // Writes 1 for each node that was reached, and 0 for every other.
-    // (By index, since of a zip with `iter_mut` the check does not learn what was written.)
+    // (`seen` by index: a zip with `iter_mut` was tried, and its proof did not close.)
     fn write(&self, marks: &mut [u8])
         requires { length marks.old ≤ max_vertices }
         ensures { (v : ℕ) → v < length marks.new → slice_index marks.new v ≡ (if slice_index_or self.now.seen.items v false then 1 else 0) }
@@ -44,7 +44,8 @@ impl Marker {
 }
 
 // Finds the vertices that the source reaches over arcs with residual capacity.
-// (Of lent slices: a queue borrows its slots until it goes, and a proof then loses the length of a `Vec` behind them.)
+// (No one search with the path solver's: that one stops at the sink and keeps each step, so that one for both would take
+// closures and be no plainer. Of lent slices, since the length of a `Vec` is not known after a queue has borrowed its slots.)
 fn reach(graph: &ResidualGraph, seen: &mut [bool], slots: &mut [usize])
     requires long { vertices graph.now.nodes ≤ length seen.old }
     requires slots { vertices graph.now.nodes ≤ length slots.old }

@@ -18,27 +18,37 @@ impl ForwardStar {
         })
     }
 
-    // Puts arc `k` before the others that start at its vertex.
-    fn link(&mut self, from: usize, k: usize)
-        requires vertex { from < max_vertices }
-        requires arc { k < max_arcs }
-        ensures heads { self.new.heads.items ≡ slice_set self.old.heads.items from (Some k) }
-        ensures nexts { self.new.nexts.items ≡ slice_set self.old.nexts.items k (slice_index_or self.old.heads.items from None) }
-    {
-        self.nexts[k] = self.heads[from];
-        self.heads[from] = Some(k);
-    }
-
     // Lists the arcs of each vertex.
-    #[tactic(auto, using(crate::proofs::Indexing::listed_more, crate::proofs::Indexing::listed_all))]
     pub(crate) fn index(&mut self, arcs: &[Arc])
         requires vertices { (k : ℕ) → k < length arcs.now → (arc_at arcs.now k).from < max_vertices }
         requires room { length arcs.now ≤ max_arcs }
         ensures { Indexed arcs.now self.new.heads.items self.new.nexts.items }
     {
-        self.heads.fill(None);
-        for (k, arc) in arcs.iter().enumerate() {
-            self.link(arc.from, k);
-        }
+        index(arcs, self.heads.as_mut_slice(), self.nexts.as_mut_slice());
+    }
+}
+
+// Puts arc `k` before the others that start at its vertex.
+fn link(heads: &mut [Option<usize>], nexts: &mut [Option<usize>], from: usize, k: usize)
+    requires vertex { from < length heads.old }
+    requires arc { k < length nexts.old }
+    ensures heads { heads.new ≡ slice_set heads.old from (Some k) }
+    ensures nexts { nexts.new ≡ slice_set nexts.old k (slice_index_or heads.old from None) }
+{
+    nexts[k] = heads[from];
+    heads[from] = Some(k);
+}
+
+// Lists the arcs of each vertex.
+// (Over two lent lists of any length: a public function keeps what it promises.)
+#[tactic(auto, using(crate::proofs::Indexing::listed_more, crate::proofs::Indexing::listed_all))]
+pub fn index(arcs: &[Arc], heads: &mut [Option<usize>], nexts: &mut [Option<usize>])
+    requires vertices { (k : ℕ) → k < length arcs.now → (arc_at arcs.now k).from < length heads.old }
+    requires room { length arcs.now ≤ length nexts.old }
+    ensures { Indexed arcs.now heads.new nexts.new }
+{
+    heads.fill(None);
+    for (k, arc) in arcs.iter().enumerate() {
+        link(heads, nexts, arc.from, k);
     }
 }

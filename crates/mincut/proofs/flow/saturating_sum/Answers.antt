@@ -1,18 +1,18 @@
-use Rattle.std.proofs.Common.{◌≡◌, ◌+◌, ◌-◌, ◌^◌, min, arith, rules, ap, sym, refl, ◌∙◌}
+use Rattle.std.proofs.Common.{◌-◌, ◌^◌, ◌+◌, min, rules, refl, ◌∙◌}
 use Rattle.std.proofs.lemmas.Fn.{says_at}
-use Rattle.mincut.proofs.Checking.{capped_more, capped_all}
+use Rattle.std.proofs.lemmas.Iterator.{YieldsList-from_slice}
+use Rattle.std.proofs.lemmas.Iterator.Adapters.{serves_from_places}
+use Rattle.std.proofs.lemmas.Iterator.Consumers.{fold_from_yields_List}
+use Rattle.mincut.proofs.Checking.{capped, mapped}
 use Rattle.mincut.proofs.flow.saturating_sum.Goals as goal
 
-pub loop-item-init : goal.loop-item-init
-loop-item-init g c = search rules
-
-pub loop-item-preserved : goal.loop-item-preserved
-loop-item-preserved g c amount each =
-    let e : c.capacity.result ≡ amount c.item-item.result =
-    each _ _ (c.loop-item.item-index, c.loop-item-test.true, sym c.item-item.is) (says_at g.F.Fn c.capacity.ensures refl) in
-    capped_more amount (2 ^ 64 - 1) c.args.items.now c.loop-item.item-index c.loop-item.sum c.saturating_add-sum.result c.item-item.result c.loop-item-test.true
-    (c.loop-item.invariant amount each)
-    (c.saturating_add-sum.ensures ∙ ap (λ x. min (c.loop-item.sum + x) (2 ^ 64 - 1)) (e ∙ ap amount c.item-item.is))
+pub fold-requires-clause-can : goal.fold-requires-clause-can
+fold-requires-clause-can g c = (tt, serves_from_places (YieldsList-from_slice c.args.items.now (cc)) (λ x q r. search rules) (λ x k h e. search rules))
 
 pub returns : goal.returns
-returns g c amount each = capped_all amount (2 ^ 64 - 1) c.args.items.now c.loop-item.item-index c.loop-item.sum (omega arith) (c.loop-item.invariant amount each)
+returns g c amount each =
+    fold_from_yields_List _ (λ s x. min (s + x) (2 ^ 64 - 1)) 0 c.fold.result c.fold.ensures.ran
+    (mapped g.F.Fn amount _ (YieldsList-from_slice c.args.items.now (cc)) c.map.ensures.closure
+    (λ x r q i k. (search rules, each x.now r i (says_at g.F.Fn {y = x} (search rules) refl))))
+    (λ a x b q k. search rules)
+    ∙ capped amount (2 ^ 64 - 1) 0 c.args.items.now

@@ -1,23 +1,29 @@
-use Rattle.std.proofs.Common.{◌≡◌, ◌+◌, get_or, arith}
-use Rattle.network.specs.Limits.{WeightsFit}
-use Rattle.network.specs.Net.{when}
-use Rattle.network.proofs.Adding.{tally_all, tally_more, tally_none}
+use Rattle.std.proofs.Common.{◌≡◌, ◌+◌, ◌^◌, ◌<◌, Bool, cond, sum_by, arith, rules}
+use Rattle.std.specs.Iterator.Adapters.{enumerate_steps}
+use Rattle.std.specs.List.{enumerate_from}
+use Rattle.std.proofs.lemmas.Fn.{fold_over, fronts}
+use Rattle.std.proofs.lemmas.Iterator.{YieldsList-from_slice}
+use Rattle.std.proofs.lemmas.Iterator.Adapters.{serves_from_total}
+use Rattle.std.proofs.lemmas.Iterator.Consumers.{YieldsList-from_enumerate}
+use Rattle.network.proofs.Adding.{Tally, tally_none, tally_more, tally_all, weights_fit}
 use Rattle.network.proofs.network.Network.weight_where.Goals as goal
-use Rattle.network.proofs.network.Network.weight_where.Goals.{then-chosen, else-chosen}
 
-pub loop-node-init : goal.loop-node-init
-loop-node-init g c = tally_none _ _
+pub fold-requires-clause-callable : goal.fold-requires-clause-callable
+fold-requires-clause-callable g c =
+    let ws = c.args.self.now.weights.items in
+    let fits : sum_by (λ p. p.1) (enumerate_from 0 ws) < 2 ^ 32 = omega (arith, weights_fit ws _ c.args.self.now.limits) in
+    serves_from_total (YieldsList-from_enumerate (YieldsList-from_slice ws cc) cc) (λ p. p.1) (λ n x q r. search rules) (λ n x l. search rules)
 
-pub loop-node-preserved : goal.loop-node-preserved
-loop-node-preserved g c =
-    let ws = c.deref-weight-items.result.now in
-    let fits : WeightsFit ws = rw c.deref-weight-items.ensures.value c.args.self.now.limits.2 in
-    let more : c.if-chosen.total ≡ c.loop-node.total + when c.chosen.result (get_or ws c.loop-node.node 0) =
-    elim c.if-chosen.branch [
-      | then-chosen w ↦ rw w.if-chosen.true w.total-is
-      | else-chosen w ↦ rw w.if-chosen.false (omega (arith, w.total-is))
-    ] in
-    tally_more _ _ _ _ _ c.chosen.result c.loop-node-test.true fits c.chosen.ensures more c.loop-node.invariant
-
-pub returns-clause-value : goal.returns-clause-value
-returns-clause-value g c = rw (← c.deref-weight-items.ensures.value) (tally_all _ _ _ _ (omega arith) c.loop-node.invariant)
+pub returns : goal.returns
+returns g c =
+    let ws = c.args.self.now.weights.items in
+    let all = YieldsList-from_enumerate {s = c.enumerate.result} (YieldsList-from_slice ws cc) cc in
+    let tally = fold_over (enumerate_steps fronts) (λ p. (p.0, p.1.now)) _ (Tally (goal.F-post g c.args.chosen)) _
+    (λ ys a x b f k t.
+    let said : (r : Bool) × goal.F-post g c.args.chosen x.0 r × (b ≡ cond r (a + x.1.now) a) = search rules in
+    (tally_more _ ys _ a b said.0 said.1 said.2 k, search rules))
+    c.enumerate.result _ _ _ all.runs (tally_none _) c.fold.ensures.ran in
+    record {
+      value = tally_all ws _ _ tally;
+      bound = omega (arith, tally.bound, weights_fit ws _ c.args.self.now.limits);
+    }

@@ -2,11 +2,15 @@ use Rattle.std.proofs.Common.{◌<◌, ℕ, length, set, Some, None, Option, sym
 use Rattle.std.proofs.lemmas.Bool.{lt-ltb, ltb-false, ltb-true}
 use Rattle.residual.specs.declared.graph.leaving.Leaving.{Leaving}
 use Rattle.residual.specs.Laid.{sink_of, vertices}
-use Rattle.residual.proofs.Searching.{Popped, all_gone, filled, gone, same_graph}
+use Rattle.residual.proofs.Searching.{Gone, Popped, all_gone, filled, gone, same_graph}
 use Rattle.pathsolver.specs.declared.step.Step.{Step}
-use Rattle.pathsolver.proofs.Seeking.{Inside, Outside, closes, ends, finds_slot, found_at, goes_by, goes_in, opens, paths_to, starts, step_fits}
+use Rattle.pathsolver.proofs.Seeking.{Inside, Outside, closes, ends, finds_slot, goes_by, goes_in, opens, paths_to, starts, step_fits}
 use Rattle.pathsolver.proofs.paths.sends.search.Goals as goal
-use Rattle.pathsolver.proofs.paths.sends.search.Goals.{else-is_open-via-then-is_open+else-is_none, else-is_open-via-else-is_open}
+use Rattle.pathsolver.proofs.paths.sends.search.Goals.{In-Some-2, else-is_open-via-then-is_open+else-is_none, else-is_open-via-else-is_open}
+
+-- the arc that this turn of the inner loop looks at
+given : (c : In-Some-2) → Gone c.args.graph.now.arcs.items c.loop-k.k-iterator.next c.next.new.self.next c.in-Some-2.k c.in-Some-2.arc
+given c = gone c.loop-k.k-iterator c.next.new.self c.loop-k.invariant.2 c.in-Some-2.ensures.steps
 
 pub loop-step-init : goal.loop-step-init
 loop-step-init c =
@@ -37,22 +41,22 @@ loop-k-init c =
 pub onward-found-requires : goal.onward-found-requires
 onward-found-requires c =
     let graph = c.args.graph.now in
-    let given = gone c.loop-k.k-iterator c.next.new.self c.loop-k.invariant.2 c.in-Some-2.ensures.steps in
-    omega (arith, step_fits given c.loop-k.invariant.3 graph.table c.if-is_none.ensures)
+    let arc = given (goal.at.onward-found-requires c).In-Some-2 in
+    omega (arith, step_fits arc c.loop-k.invariant.3 graph.table c.if-is_none.ensures)
 
 pub unwrap-requires-then-is_none : goal.unwrap-requires-then-is_none
 unwrap-requires-then-is_none c =
     let graph = c.args.graph.now in
-    let given = gone c.loop-k.k-iterator c.next.new.self c.loop-k.invariant.2 c.in-Some-2.ensures.steps in
-    c.push-then-is_none.ensures.fits ∙ lt-ltb _ _ (finds_slot given c.loop-k.invariant.3 graph.table c.if-is_none.ensures)
+    let arc = given (goal.at.unwrap-requires-then-is_none c).In-Some-2 in
+    c.push-then-is_none.ensures.fits ∙ lt-ltb _ _ (finds_slot arc c.loop-k.invariant.3 graph.table c.if-is_none.ensures)
 
 pub loop-k-preserved-then-is_none : goal.loop-k-preserved-then-is_none
 loop-k-preserved-then-is_none c =
     let p = c.push-then-is_none.ensures in
     let pos : 0 < c.in-Some-2.arc.remaining = omega (arith, ltb-true 0 _ (sym c.if-is_open.ensures)) in
     let graph = c.args.graph.now in
-    let given = gone c.loop-k.k-iterator c.next.new.self c.loop-k.invariant.2 c.in-Some-2.ensures.steps in
-    let on = goes_in given c.loop-k.invariant.3 graph.table c.if-is_none.ensures pos (λ e. c.if-arc-sink.false (sym e ∙ sym c.sink-sink.ensures))
+    let arc = given (goal.at.loop-k-preserved-then-is_none c).In-Some-2 in
+    let on = goes_in arc c.loop-k.invariant.3 graph.table c.if-is_none.ensures pos (λ e. c.if-arc-sink.false (sym e ∙ sym c.sink-sink.ensures))
     record { fits = p.fits; queued = rw c.onward-found.ensures at p.queued; kept = p.kept; used = p.used; room = p.room } in (
       tt,
       tt,
@@ -63,11 +67,11 @@ loop-k-preserved-then-is_none c =
 pub loop-k-preserved : goal.loop-k-preserved
 loop-k-preserved c =
     let graph = c.args.graph.now in
-    let given = gone c.loop-k.k-iterator c.next.new.self c.loop-k.invariant.2 c.in-Some-2.ensures.steps in (
+    let arc = given (goal.at.loop-k-preserved c).In-Some-2 in (
       tt,
       tt,
       same_graph c.loop-k.k-iterator c.next.new.self c.loop-k.invariant.2 c.in-Some-2.ensures.steps,
-      goes_by given c.loop-k.invariant.3 graph.table
+      goes_by arc c.loop-k.invariant.3 graph.table
           (elim c.else-is_open.branch [
             | else-is_open-via-then-is_open+else-is_none w ↦ λ _. w.if-is_none.ensures
             | else-is_open-via-else-is_open w ↦ λ h. absurd (omega (arith, ltb-false 0 _ (sym w.if-is_open.ensures)))
@@ -81,17 +85,11 @@ loop-step-preserved c =
     (subst (λ (o : Option ℕ). Inside graph.arcs.items (vertices graph.nodes) graph.nodes (sink_of graph.nodes) c.loop-k.visits c.pop.new.self c.loop-k.queue c.in-Some.step o)
     (all_gone c.loop-k.k-iterator c.next.new.self c.in-None.ensures.steps) c.loop-k.invariant.3)
 
-pub returns-then-arc-sink : goal.returns-then-arc-sink
-returns-then-arc-sink c =
-    let graph = c.args.graph.now in
-    let given = gone c.loop-k.k-iterator c.next.new.self c.loop-k.invariant.2 c.in-Some-2.ensures.steps in
-    let new = c.if-is_none.ensures in
+pub returns-then-arc-sink-clause-trail : goal.returns-then-arc-sink-clause-trail
+returns-then-arc-sink-clause-trail c =
+    let arc = given (goal.at.returns-then-arc-sink-clause-trail c).In-Some-2 in
     let pos : 0 < c.in-Some-2.arc.remaining = omega (arith, ltb-true 0 _ (sym c.if-is_open.ensures)) in
-    rw c.onward-found.ensures
-    record {
-      trail = (paths_to given c.loop-k.invariant.3 graph.table new pos).trail;
-      goal = found_at given c.loop-k.invariant.3 graph.table new pos (c.if-arc-sink.true ∙ c.sink-sink.ensures);
-    }
+    rw c.onward-found.ensures (paths_to arc c.loop-k.invariant.3 c.args.graph.now.table c.if-is_none.ensures pos).trail
 
 pub returns-in_default-clause-goal : goal.returns-in_default-clause-goal
 returns-in_default-clause-goal c = ends c.in_default.ensures.next c.loop-step.invariant

@@ -2,10 +2,21 @@ use Rattle.std.proofs.Common.{◌<◌, ℕ, Bool, true, false, List, length, get
 use Rattle.std.proofs.lemmas.Bool.{lt-ltb, ltb-false, ltb-true}
 use Rattle.residual.specs.declared.graph.leaving.Leaving.{Leaving}
 use Rattle.residual.specs.Laid.{vertices}
-use Rattle.residual.proofs.Frontier.{grown_set}
-use Rattle.residual.proofs.Searching.{Among, Between, Popped, all_gone, comes_to_end, filled, gone, passes_by, same_graph, sets_out, slot_for, takes_in, to_under, turns_back, turns_to}
+use Rattle.residual.proofs.Frontier.{Grown, grown_set}
+use Rattle.residual.proofs.Searching.{Among, Between, Gone, Popped, all_gone, filled, gone, passes_by, same_graph, sets_out, slot_for, takes_in, to_under, turns_back, turns_to}
 use Rattle.residual.proofs.marking.marks.reach.Goals as goal
-use Rattle.residual.proofs.marking.marks.reach.Goals.{else-is_open-via-then-is_open+else-not-seen-arc, else-is_open-via-else-is_open}
+use Rattle.residual.proofs.marking.marks.reach.Goals.{In-Some-2, else-is_open-via-then-is_open+else-not-seen-arc, else-is_open-via-else-is_open}
+
+-- the arc that this turn of the inner loop looks at
+given : (c : In-Some-2) → Gone c.args.graph.now.arcs.items c.loop-arc.arc-iterator.next c.next.new.self.next c.in-Some-2.field-0-0 c.in-Some-2.arc
+given c = gone c.loop-arc.arc-iterator c.next.new.self c.loop-arc.invariant.2 c.in-Some-2.ensures.steps
+
+-- what is seen once its end is
+grows : (c : In-Some-2) → Grown (λ v. get_or c.loop-arc.seen v false) (λ v. get_or (set c.loop-arc.seen c.in-Some-2.arc.to true) v false) c.in-Some-2.arc.to
+grows c =
+    let graph = c.args.graph.now in
+    let to = to_under (λ v. v) graph.arcs.items (given c) c.loop-arc.invariant.3 graph.table in
+    grown_set (λ b. b) c.loop-arc.seen c.in-Some-2.arc.to true false (omega (arith, to, c.fill.ensures.len, length-set c.fill.new.self c.source-source.result true)) refl
 
 pub loop-vertex-init : goal.loop-vertex-init
 loop-vertex-init c =
@@ -35,34 +46,30 @@ loop-arc-init c =
 pub unwrap-requires-then-not-seen-arc : goal.unwrap-requires-then-not-seen-arc
 unwrap-requires-then-not-seen-arc c =
     let graph = c.args.graph.now in
-    let given = gone c.loop-arc.arc-iterator c.next.new.self c.loop-arc.invariant.2 c.in-Some-2.ensures.steps in
-    let to = to_under (λ v. v) graph.arcs.items given c.loop-arc.invariant.3 graph.table in
-    let more = grown_set (λ b. b) c.loop-arc.seen c.in-Some-2.arc.to true false (omega (arith, to, c.fill.ensures.len, length-set c.fill.new.self c.source-source.result true)) refl in
-    c.push-then-not-seen-arc.ensures.fits ∙ lt-ltb _ _ (slot_for (λ v. v) graph.arcs.items given c.loop-arc.invariant.3 graph.table more c.if-not-seen-arc.true)
+    let w = (goal.at.unwrap-requires-then-not-seen-arc c).In-Some-2 in
+    c.push-then-not-seen-arc.ensures.fits ∙ lt-ltb _ _ (slot_for (λ v. v) graph.arcs.items (given w) c.loop-arc.invariant.3 graph.table (grows w) c.if-not-seen-arc.true)
 
 pub loop-arc-preserved-then-not-seen-arc : goal.loop-arc-preserved-then-not-seen-arc
 loop-arc-preserved-then-not-seen-arc c =
     let p = c.push-then-not-seen-arc.ensures in
     let pos : 0 < c.in-Some-2.arc.remaining = omega (arith, ltb-true 0 _ (sym c.if-is_open.ensures)) in
     let graph = c.args.graph.now in
-    let given = gone c.loop-arc.arc-iterator c.next.new.self c.loop-arc.invariant.2 c.in-Some-2.ensures.steps in
-    let to = to_under (λ v. v) graph.arcs.items given c.loop-arc.invariant.3 graph.table in
-    let more = grown_set (λ b. b) c.loop-arc.seen c.in-Some-2.arc.to true false (omega (arith, to, c.fill.ensures.len, length-set c.fill.new.self c.source-source.result true)) refl in (
+    let w = (goal.at.loop-arc-preserved-then-not-seen-arc c).In-Some-2 in (
       tt,
       tt,
       same_graph c.loop-arc.arc-iterator c.next.new.self c.loop-arc.invariant.2 c.in-Some-2.ensures.steps,
-      takes_in (λ v. v) graph.arcs.items given c.loop-arc.invariant.3 graph.table more c.if-not-seen-arc.true
+      takes_in (λ v. v) graph.arcs.items (given w) c.loop-arc.invariant.3 graph.table (grows w) c.if-not-seen-arc.true
           pos refl record { fits = p.fits; queued = p.queued; kept = p.kept; used = p.used; room = p.room },
     )
 
 pub loop-arc-preserved : goal.loop-arc-preserved
 loop-arc-preserved c =
     let graph = c.args.graph.now in
-    let given = gone c.loop-arc.arc-iterator c.next.new.self c.loop-arc.invariant.2 c.in-Some-2.ensures.steps in (
+    let w = (goal.at.loop-arc-preserved c).In-Some-2 in (
       tt,
       tt,
       same_graph c.loop-arc.arc-iterator c.next.new.self c.loop-arc.invariant.2 c.in-Some-2.ensures.steps,
-      passes_by (λ v. v) graph.arcs.items given c.loop-arc.invariant.3
+      passes_by (λ v. v) graph.arcs.items (given w) c.loop-arc.invariant.3
           (elim c.else-is_open.branch [
             | else-is_open-via-then-is_open+else-not-seen-arc w ↦ λ _. w.if-not-seen-arc.false
             | else-is_open-via-else-is_open w ↦ λ h. absurd (omega (arith, ltb-false 0 _ (sym w.if-is_open.ensures)))
@@ -74,6 +81,3 @@ loop-vertex-preserved c =
     turns_back (λ v. v) c.args.graph.now.arcs.items
     (subst (λ (o : Option ℕ). Among (λ v. v) c.args.graph.now.arcs.items (vertices c.args.graph.now.nodes) c.args.graph.now.nodes (λ v. get_or c.loop-arc.seen v false) c.pop.new.self c.loop-arc.queue c.in-Some.vertex o)
     (all_gone c.loop-arc.arc-iterator c.next.new.self c.in-None.ensures.steps) c.loop-arc.invariant.3)
-
-pub returns : goal.returns
-returns c = comes_to_end (λ v. v) c.args.graph.now.arcs.items c.in_default.ensures.next c.loop-vertex.invariant
