@@ -5,7 +5,6 @@ ghost use Rattle.std.specs.Prelude.{◌≡◌, Ok, Err, MatchResult};
 ghost use Rattle.netfile.specs.Meaning.{meaning};
 ghost use Rattle.network.specs.View.{view};
 
-use anyhow::{Context, bail};
 use faults::fault::Fault;
 use netfile::file::read;
 use network::network::Network;
@@ -52,25 +51,35 @@ fn help(rt: &impl Print) -> io::Result<()> {
     println!(rt; "or why it is refused, and then ends with status 1.")
 }
 
-fn run(rt: &HostRuntime) -> anyhow::Result<()> {
+// Checks the file of this name. Why it is refused, or cannot be read, goes to standard error.
+fn report(rt: &HostRuntime, path: &str) -> io::Result<ExitCode> {
+    match check(rt, path) {
+        Ok(()) => Ok(ExitCode::SUCCESS),
+        Err(error) => {
+            eprintln!(rt; "netcheck: {path}: {error}")?;
+            Ok(ExitCode::FAILURE)
+        }
+    }
+}
+
+fn run(rt: &HostRuntime) -> anyhow::Result<ExitCode> {
     let mut args = env::args(rt)?;
     let named = args.nth(1);
     let more = args.next();
     match named {
         Some(word) if word.as_str() == "--help" || word.as_str() == "-h" => {
             help(rt)?;
-            Ok(())
+            Ok(ExitCode::SUCCESS)
         }
-        Some(path) if more.is_none() => { check(rt, path.as_str()).context(format_args!("{path}")) }
-        _ => bail!("name one file; netcheck --help says more"),
+        Some(path) if more.is_none() => Ok(report(rt, path.as_str())?),
+        _ => {
+            eprintln!(rt; "netcheck: name one file; netcheck --help says more")?;
+            Ok(ExitCode::FAILURE)
+        }
     }
 }
 
-// Why the file is refused or cannot be read, or what is wrong with the call, goes to standard error.
+// An error that is left here is one of printing or of the arguments, and goes unsaid.
 fn main(rt: HostRuntime) -> ExitCode {
-    let Err(error) = run(&rt) else {
-        return ExitCode::SUCCESS;
-    };
-    let _ = eprintln!(rt; "netcheck: {error:#}");
-    ExitCode::FAILURE
+    run(&rt).unwrap_or(ExitCode::FAILURE)
 }

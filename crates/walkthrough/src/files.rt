@@ -10,6 +10,7 @@ use network::network::Network;
 use std::{fmt, io};
 
 // Bytes, printed in hexadecimal.
+// (No one type with `District`: they differ in a format, which must be a literal, and a closure for it is no plainer.)
 #[derive(Clone, Copy)]
 struct Hexadecimal<'a> {
     bytes: &'a [u8],
@@ -80,12 +81,13 @@ pub(crate) fn tour(rt: &HostRuntime, town: &Network) -> anyhow::Result<()> {
     let mut copy = Network::new(rt.alloc())?;
     let mut file = [0; 64];
     let size = copy_by_file(town, &mut file, &mut copy)?;
+    let file = &mut file[..size];
     println!(rt; "write the town to a file: {size} bytes")?;
-    show(rt, &file[..size])?;
+    show(rt, file)?;
     let nodes = copy.weights().len();
     let pipes = copy.pipes().len();
     println!(rt; "read them back: {nodes} nodes, {pipes} pipes")?;
-    try_damaged(rt, &mut copy, &mut file[..size])?;
+    try_damaged(rt, &mut copy, file)?;
     try_write(rt, town, &mut [0; 20])?;
     Ok(())
 }

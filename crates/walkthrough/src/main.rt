@@ -31,7 +31,7 @@ impl fmt::Display for District<'_> {
 }
 
 // Makes an edit, and prints it with its answer.
-// (The runtime stays a parameter beside the town, as in every function that prints.)
+// (The runtime stays a parameter beside the town: in a struct that holds both, the contract would speak of a borrow.)
 fn make(rt: &impl Print, town: &mut Network, edit: Edit) -> io::Result<()>
     ensures { view town.new ≡ after_edit (view town.old) (edit_of edit) }
 {
