@@ -9,10 +9,9 @@ use Rattle.std.proofs.lemmas.Iterator.{YieldsList}
 use Rattle.std.proofs.lemmas.List.Elements.{Contains-append_right}
 use Rattle.std.proofs.lemmas.Bool.{eqb-false, eqb-true, leb-false, ltb-false, not-false, or_parts}
 use Rattle.network.proofs.Accepting.{passed}
-use Rattle.network.specs.Limits.{max_nodes, max_pipes}
+use Rattle.network.specs.Limits.{max_nodes, max_pipes, no_pipe}
 use Rattle.network.specs.declared.pipe.Pipe.{Pipe}
 use Rattle.mincut.specs.Flow.{Flow, bad_pipe, some_bad_pipe, total_capacity}
-use Rattle.network.specs.Limits.{no_pipe}
 use Rattle.mincut.specs.Solver.{cut_refusal, max_capacity, misshapen}
 
 -- to stop at m after each element is to stop at m at the end

@@ -1,14 +1,16 @@
-// The edits of the walk: each prints what it does, and is made by one call of the network.
+// The edits of the walk. Each prints what it does, and is made by one call of the network.
 ghost use Rattle.std.specs.Prelude.{◌≡◌};
-ghost use Rattle.network.specs.Edits.{after_edit};
+ghost use Rattle.network.specs.Edits.{after_edit, edit_refusal};
+ghost use Rattle.network.specs.Refusals.{answer};
 ghost use Rattle.network.specs.View.{view};
-ghost use Rattle.walkthrough.specs.Edits.{edit_of};
+ghost use Rattle.walkthrough.specs.Edits.{done_by, edit_of};
 
 use crate::answer::Done;
 use faults::fault::Fault;
 use network::network::Network;
 use std::fmt;
 
+// An edit of the town's network.
 #[derive(Clone, Copy)]
 pub(crate) enum Edit {
     Add {
@@ -29,8 +31,10 @@ pub(crate) enum Edit {
 }
 
 impl Edit {
+    // Makes the edit, and answers what it has done or why it is refused.
     pub(crate) fn apply(self, town: &mut Network) -> Result<Done, Fault>
-        ensures { view town.new ≡ after_edit (view town.old) (edit_of self) }
+        ensures answer { result ≡ answer (edit_refusal (view town.old) (edit_of self)) (done_by (view town.old) self) }
+        ensures after { view town.new ≡ after_edit (view town.old) (edit_of self) }
     {
         match self {
             Edit::Add { weight } => town.add_node(weight).map(Done::Node),
