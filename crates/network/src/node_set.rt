@@ -16,10 +16,11 @@ pub(crate) struct NodeSet<'a> {
 }
 
 impl<'a> NodeSet<'a> {
-    ghost use Rattle.std.specs.Prelude.{◌≡◌, Some, IfErr, IfOk};
+    ghost use Rattle.std.specs.Prelude.{◌≡◌, ◌*◌, ◌<◌, ◌≤◌, Some, IfErr, IfOk};
     ghost use Rattle.network.specs.Answers.{misfit};
-    ghost use Rattle.network.specs.Net.{adds, boundary, complement, lighter, weight};
-    ghost use Rattle.network.specs.Scores.{denominator};
+    ghost use Rattle.network.specs.Limits.{PipeFits, max_nodes, max_weight};
+    ghost use Rattle.network.specs.Net.{adds, boundary, complement, count, lighter, weight};
+    ghost use Rattle.network.specs.Scores.{denominator, inside, outside};
     ghost use Rattle.network.specs.Sets.{network_of, nodes_of};
     ghost use Rattle.network.specs.View.{view};
 
@@ -35,23 +36,28 @@ impl<'a> NodeSet<'a> {
 
     // Whether the node is in the set.
     fn has(&self, node: usize) -> bool
+        requires { node < count (network_of self.now) }
         ensures { result ≡ nodes_of self.now node }
     {
-        self.marks.get(node) == Some(&1)
+        self.marks[node] == 1
+    }
+
+    // The weight of the set, and of the nodes outside it.
+    fn sides(&self) -> (u32, u32)
+        ensures set { result.0 ≡ weight (network_of self.now) (nodes_of self.now) }
+        ensures rest { result.1 ≡ weight (network_of self.now) (complement (nodes_of self.now)) }
+        ensures bounds { (result.0 ≤ max_nodes * max_weight) × (result.1 ≤ max_nodes * max_weight) }
+    {
+        self.network
+            .weights_where(|node| self.has(node), |node| !self.has(node))
     }
 
     // The weight of the set.
     pub(crate) fn weight(&self) -> u32
         ensures { result ≡ weight (network_of self.now) (nodes_of self.now) }
     {
-        self.network.weight_where(|node| self.has(node))
-    }
-
-    // The weight of the nodes outside the set.
-    pub(crate) fn rest(&self) -> u32
-        ensures { result ≡ weight (network_of self.now) (complement (nodes_of self.now)) }
-    {
-        self.network.weight_where(|node| !self.has(node))
+        let (weight, _) = self.sides();
+        weight
     }
 
     // The weight of the lighter of the two sides.
@@ -59,11 +65,13 @@ impl<'a> NodeSet<'a> {
     pub(crate) fn lighter_side(&self) -> u32
         ensures { result ≡ lighter (network_of self.now) (nodes_of self.now) }
     {
-        self.weight().min(self.rest())
+        let (weight, rest) = self.sides();
+        weight.min(rest)
     }
 
     // What the pipe adds to the boundary cost of the set.
     fn added_cost(&self, pipe: Pipe<u32>) -> u32
+        requires { PipeFits (count (network_of self.now)) pipe }
         ensures { result ≡ adds (nodes_of self.now) pipe }
     {
         if self.has(pipe.first) != self.has(pipe.second) {
@@ -85,16 +93,28 @@ impl<'a> NodeSet<'a> {
             .sum()
     }
 
+    // The weight of what the set has inside the proposal, and of what it has outside.
+    // (`&`, which reads both marks of each node: with `&&` the pass would branch on them.)
+    fn parts(&self, proposal: &NodeSet) -> (u32, u32)
+        requires { network_of proposal.now ≡ network_of self.now }
+        ensures inside { result.0 ≡ inside (network_of self.now) (nodes_of proposal.now) (nodes_of self.now) }
+        ensures outside { result.1 ≡ outside (network_of self.now) (nodes_of proposal.now) (nodes_of self.now) }
+        ensures bounds { (result.0 ≤ max_nodes * max_weight) × (result.1 ≤ max_nodes * max_weight) }
+    {
+        self.network.weights_where(
+            |node| self.has(node) & proposal.has(node),
+            |node| self.has(node) & !proposal.has(node),
+        )
+    }
+
     // The denominator of the set relative to the proposal.
     #[tactic(auto, using(crate::proofs::Products::product_fits))]
     pub(crate) fn denominator(&self, proposal: &NodeSet) -> i64
+        requires { network_of proposal.now ≡ network_of self.now }
         ensures { result ≡ denominator (network_of self.now) (nodes_of proposal.now) (nodes_of self.now) }
     {
-        let network = self.network;
-        let proposed = network.weight_where(|node| proposal.has(node));
-        let remainder = network.weight_where(|node| !proposal.has(node));
-        let inside = network.weight_where(|node| self.has(node) && proposal.has(node));
-        let outside = network.weight_where(|node| self.has(node) && !proposal.has(node));
+        let (proposed, remainder) = proposal.sides();
+        let (inside, outside) = self.parts(proposal);
         i64::from(remainder) * i64::from(inside) - i64::from(proposed) * i64::from(outside)
     }
 }
