@@ -42,6 +42,15 @@ table_none n = record {
   small = omega arith;
 }
 
+-- a table has arcs between vertices below n, and so below any larger number
+pub table_wider : (arcs : List Arc) (n m : ℕ) → n ≤ m → Table arcs n → Table arcs m
+table_wider arcs n m le t = record {
+  paired = t.paired;
+  from = λ k lt. omega (arith, t.from k lt);
+  to = λ k lt. omega (arith, t.to k lt);
+  small = t.small;
+}
+
 module _ (arcs : List Arc) (a b c d : ℕ) where
   abbrev forth : Arc
   forth = record { from = a; to = b; remaining = c }

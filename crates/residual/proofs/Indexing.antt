@@ -2,7 +2,7 @@
 -- Assumes nothing.
 use Rattle.std.proofs.Common.{◌≡◌, ℕ, zero, suc, ◌+◌, ◌<◌, ◌≤◌, true, false, cond, eqb, ◌≢◌, List, [], length, get_or, set, replicate, Some, None, Option, sym, refl, ap, ◌∙◌, ⊎_elim, add-one, arith, length-set, get_or-set_other, get_or-set_same, below_more}
 use lib.ListN.{length-replicate}
-use Rattle.std.proofs.lemmas.List.{get_or-replicate, get_or_default}
+use Rattle.std.proofs.lemmas.List.{get_or-replicate}
 use Rattle.std.proofs.lemmas.Bool.{cases_eq, cases_Bool, cond-true, cond-false, eq-eqb, ne_eqb, eqb-true, eqb-false}
 use Rattle.residual.specs.declared.arcs.Arc.{Arc}
 use Rattle.residual.specs.Arcs.{Alike, arc_at}
@@ -99,11 +99,11 @@ ahead_le arcs u j None e = omega arith
 ahead_le arcs u j (Some k) e = omega (arith, (latest_some arcs u j k (sym e)).under)
 
 -- the first arc of a vertex is one of the table, and the one after arc k is one of those before it
-pub first_under : (arcs : List Arc) (heads nexts : List (Option ℕ)) (u : ℕ) (next : Option ℕ) → Indexed arcs heads nexts → u < length heads → next ≡ get_or heads u next → ahead next ≤ length arcs
-first_under arcs heads nexts u next x lt e = ahead_le arcs u (length arcs) next (e ∙ get_or_default heads u next None lt ∙ x.head u lt)
+pub first_under : (arcs : List Arc) (heads nexts : List (Option ℕ)) (u : ℕ) → Indexed arcs heads nexts → u < length heads → ahead (get_or heads u None) ≤ length arcs
+first_under arcs heads nexts u x lt = ahead_le arcs u (length arcs) _ (x.head u lt)
 
-pub next_under : (arcs : List Arc) (heads nexts : List (Option ℕ)) (k : ℕ) (next : Option ℕ) → Indexed arcs heads nexts → k < length arcs → next ≡ get_or nexts k next → ahead next ≤ k
-next_under arcs heads nexts k next x lt e = ahead_le arcs (arc_at arcs k).from k next (e ∙ get_or_default nexts k next None (omega (arith, x.long)) ∙ x.next k lt)
+pub next_under : (arcs : List Arc) (heads nexts : List (Option ℕ)) (k : ℕ) → Indexed arcs heads nexts → k < length arcs → ahead (get_or nexts k None) ≤ k
+next_under arcs heads nexts k x lt = ahead_le arcs (arc_at arcs k).from k _ (x.next k lt)
 
 -- the lists do not depend on what the arcs can take
 latest_alike : (old new : List Arc) → Alike old new → (u i : ℕ) → latest new u i ≡ latest old u i

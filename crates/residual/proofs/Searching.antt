@@ -4,10 +4,9 @@ use Rattle.std.proofs.Common.{◌≡◌, ℕ, ◌+◌, ◌<◌, ◌≤◌, Bool,
 use lib.ListN.{length-replicate}
 use Rattle.std.proofs.lemmas.List.{get_or_past, get_or-replicate, map_push}
 use Rattle.std.proofs.lemmas.Bool.{cases_lt, lt-ltb}
-use Rattle.std.specs.Borrow.{Bor}
 use Rattle.residual.specs.declared.arcs.Arc.{Arc}
-use Rattle.residual.specs.declared.graph.ResidualGraph.{ResidualGraph}
 use Rattle.residual.specs.declared.graph.leaving.Leaving.{Leaving}
+use Rattle.residual.specs.declared.graph.lent.LentGraph.{LentGraph}
 use Rattle.residual.specs.declared.queue.Queue.{Queue}
 use Rattle.residual.specs.Arcs.{Table, Vertices, arc_at}
 use Rattle.residual.specs.Leaving.{GoesOn}
@@ -65,19 +64,23 @@ gone_by arcs (Some j) later k a e h =
       after = h ∙ ap (λ (i : ℕ). latest arcs (arc_at arcs i).from i) (sym is);
     }
 
-pub gone : {graph : ResidualGraph} {k : ℕ} {a : Arc} (s t : Leaving) → s.graph.now ≡ graph → GoesOn s (Some (k, a)) t → Gone graph.arcs.items s.next t.next k a
-gone {k = k} {a} s t e h = subst (λ (g : ResidualGraph). Gone g.arcs.items s.next t.next k a) e (gone_by s.graph.now.arcs.items s.next t.next k a h.0 h.2)
+pub gone : {arcs : List Arc} {k : ℕ} {a : Arc} (s t : Leaving) → s.graph.arcs.now ≡ arcs → GoesOn s (Some (k, a)) t → Gone arcs s.next t.next k a
+gone {k = k} {a} s t e h = subst (λ (l : List Arc). Gone l s.next t.next k a) e (gone_by s.graph.arcs.now s.next t.next k a h.0 h.2)
 
 -- it goes on in the same graph
-pub same_graph : {graph : ResidualGraph} {r : Option (ℕ × Arc)} (s t : Leaving) → s.graph.now ≡ graph → GoesOn s r t → t.graph.now ≡ graph
-same_graph s t e h = ap (λ (g : Bor ResidualGraph). g.now) h.1 ∙ e
+pub same_graph : {graph : LentGraph} {r : Option (ℕ × Arc)} (s t : Leaving) → s.graph ≡ graph → GoesOn s r t → t.graph ≡ graph
+same_graph s t e h = h.1 ∙ e
+
+-- and so over the same arcs
+pub same_arcs : {arcs : List Arc} {r : Option (ℕ × Arc)} (s t : Leaving) → s.graph.arcs.now ≡ arcs → GoesOn s r t → t.graph.arcs.now ≡ arcs
+same_arcs s t e h = ap (λ (g : LentGraph). g.arcs.now) (same_graph s t refl h) ∙ e
 
 none_by : (arcs : List Arc) (next : Option ℕ) → ◌≡◌ {A = Option (ℕ × Arc)} None (option_map (with_arc arcs) next) → next ≡ None
 none_by arcs None e = refl
 none_by arcs (Some j) e = let z : ◌≡◌ {A = ℕ} 0 1 = cc in absurd (omega arith)
 
 pub all_gone : (s t : Leaving) → GoesOn s None t → s.next ≡ None
-all_gone s t h = none_by s.graph.now.arcs.items s.next h.0
+all_gone s t h = none_by s.graph.arcs.now s.next h.0
 
 module _ {X : Type 0} (f : X → ℕ) (arcs : List Arc) where
   -- between two vertices

@@ -9,6 +9,6 @@ use Rattle.residual.specs.Star.{latest}
 -- the next arc comes with its number, and after it the latest before it that starts at the same vertex
 abbrev pub GoesOn : Leaving → Option (ℕ × Arc) → Leaving → Type 0
 GoesOn s r t =
-    (r ≡ option_map (λ k. (k, arc_at s.graph.now.arcs.items k)) s.next)
+    (r ≡ option_map (λ k. (k, arc_at s.graph.arcs.now k)) s.next)
     × (t.graph ≡ s.graph)
-    × MatchOption s.next (t.next ≡ None) (λ k. t.next ≡ latest s.graph.now.arcs.items (arc_at s.graph.now.arcs.items k).from k)
+    × MatchOption s.next (t.next ≡ None) (λ k. t.next ≡ latest s.graph.arcs.now (arc_at s.graph.arcs.now k).from k)

@@ -6,9 +6,10 @@ ghost use Rattle.residual.specs.Laid.{max_arcs, vertices};
 ghost use Rattle.residual.specs.Star.{Indexed};
 
 use crate::arcs::Arc;
-use crate::star::ForwardStar;
+use crate::star::StarMemory;
 
 pub mod leaving;
+pub(crate) mod lent;
 mod makes;
 mod moves;
 
@@ -19,7 +20,7 @@ mod moves;
 pub struct ResidualGraph {
     nodes: usize,
     arcs: Vec<Arc>,
-    star: ForwardStar,
+    star: StarMemory,
     ghost few: { nodes ≤ max_nodes },
     ghost reserved: { max_arcs ≤ vec_capacity arcs },
     ghost table: { Table arcs.items (vertices nodes) },

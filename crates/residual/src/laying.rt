@@ -1,11 +1,11 @@
-ghost use Rattle.std.specs.Prelude.{◌≡◌, ℕ, ◌+◌, ◌*◌, ◌≤◌, length, vec_len, vec_capacity};
+ghost use Rattle.std.specs.Prelude.{◌≡◌, ℕ, ◌+◌, ◌*◌, ◌≤◌, length, None, vec_len, vec_capacity};
+ghost use Rattle.mincut.specs.Solver.{cut_refusal};
 ghost use Rattle.mincut.specs.View.{flow_of};
 ghost use Rattle.residual.specs.declared.laying.Pair.{Pair};
 ghost use Rattle.residual.specs.Laid.{both_ways, IsRule, Laid, max_arcs, one_way, table_of, with_pair, with_pairs};
 
 use crate::arcs::Arc;
-use mincut::accepted::AcceptedNetwork;
-use mincut::flow::FlowPipe;
+use mincut::flow::{FlowNetwork, FlowPipe};
 
 // Two arcs between two vertices, one each way, and what each can take.
 #[derive(Clone, Copy)]
@@ -77,13 +77,13 @@ fn add_pairs<T: Copy, F: Fn(usize, T) -> Pair>(arcs: &mut Vec<Arc>, items: &[T],
 
 // Fills the table with the arcs of a flow network that no solver refuses: from the source to each node, from each
 // node to the sink, and both ways along each pipe.
-pub fn lay(accepted: AcceptedNetwork<'_>, arcs: &mut Vec<Arc>)
-    requires { max_arcs ≤ vec_capacity arcs.old }
-    ensures items { arcs.new.items ≡ table_of (flow_of accepted.entry.network) }
-    ensures laid { Laid (flow_of accepted.entry.network) arcs.new.items }
+pub fn lay(network: FlowNetwork<'_>, arcs: &mut Vec<Arc>)
+    requires accepted { cut_refusal (flow_of network) network.nodes ≡ None }
+    requires room { max_arcs ≤ vec_capacity arcs.old }
+    ensures items { arcs.new.items ≡ table_of (flow_of network.entry) }
+    ensures laid { Laid (flow_of network.entry) arcs.new.items }
     ensures capacity { vec_capacity arcs.new ≡ vec_capacity arcs.old }
 {
-    let network = accepted.network();
     let source = network.nodes;
     let sink = source + 1;
     arcs.clear();

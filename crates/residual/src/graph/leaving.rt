@@ -1,7 +1,7 @@
-ghost use Rattle.std.specs.Prelude.{◌≡◌, ◌≤◌, vec_len};
+ghost use Rattle.std.specs.Prelude.{◌≤◌, length};
 ghost use Rattle.residual.specs.Star.{ahead};
 
-use super::ResidualGraph;
+use super::lent::LentGraph;
 
 mod steps;
 
@@ -9,7 +9,7 @@ mod steps;
 // (An index, as the lists of the graph are: a solve may not allocate others.)
 #[derive(Drop)]
 pub struct Leaving<'a> {
-    pub(super) graph: &'a ResidualGraph,
+    pub(super) graph: LentGraph<'a>,
     pub(super) next: Option<usize>,
-    ghost within: { ahead next ≤ vec_len graph.now.arcs },
+    ghost within: { ahead next ≤ length graph.arcs.now },
 }

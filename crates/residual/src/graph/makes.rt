@@ -5,7 +5,7 @@ ghost use Rattle.residual.specs.Laid.{Laid, table_of};
 use super::ResidualGraph;
 use crate::arcs::MAX_ARCS;
 use crate::laying::lay;
-use crate::star::ForwardStar;
+use crate::star::StarMemory;
 use mincut::accepted::AcceptedNetwork;
 use std::alloc::{AllocError, Global};
 
@@ -17,7 +17,7 @@ impl ResidualGraph {
         Ok(ResidualGraph {
             nodes: 0,
             arcs: Vec::with_capacity(heap, MAX_ARCS)?,
-            star: ForwardStar::new(heap)?,
+            star: StarMemory::new(heap)?,
         })
     }
 
@@ -27,7 +27,7 @@ impl ResidualGraph {
         ensures items { self.new.arcs.items ≡ table_of (flow_of accepted.entry.network) }
         ensures laid { Laid (flow_of accepted.entry.network) self.new.arcs.items }
     {
-        lay(accepted, &mut self.arcs);
+        lay(accepted.network(), &mut self.arcs);
         self.star.index(self.arcs.as_slice());
         self.nodes = accepted.network().nodes;
     }

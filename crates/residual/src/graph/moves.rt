@@ -5,6 +5,7 @@ ghost use Rattle.residual.specs.Star.{latest};
 
 use super::ResidualGraph;
 use super::leaving::Leaving;
+use super::lent::LentGraph;
 use crate::arcs::{Arc, push};
 
 impl ResidualGraph {
@@ -37,17 +38,31 @@ impl ResidualGraph {
         self.arcs[k]
     }
 
+    // The nodes, the arcs and their lists, lent.
+    #[tactic(auto, using(crate::proofs::Building::table_wider))]
+    pub(crate) fn lent(&self) -> LentGraph<'_>
+        ensures nodes { result.nodes ≡ self.now.nodes }
+        ensures arcs { result.arcs.now ≡ self.now.arcs.items }
+        ensures heads { result.star.heads.now ≡ self.now.star.heads.items }
+        ensures nexts { result.star.nexts.now ≡ self.now.star.nexts.items }
+    {
+        LentGraph {
+            nodes: self.source(),
+            arcs: self.arcs.as_slice(),
+            star: self.star.lent(),
+        }
+    }
+
     // The arcs that leave a vertex, the latest first, each with its number.
-    #[tactic(auto, using(crate::proofs::Indexing::first_under))]
     pub fn leaving(&self, vertex: usize) -> Leaving<'_>
         requires { vertex < vertices self.now.nodes }
-        ensures graph { result.graph.now ≡ self.now }
+        ensures nodes { result.graph.nodes ≡ self.now.nodes }
+        ensures arcs { result.graph.arcs.now ≡ self.now.arcs.items }
+        ensures heads { result.graph.star.heads.now ≡ self.now.star.heads.items }
+        ensures nexts { result.graph.star.nexts.now ≡ self.now.star.nexts.items }
         ensures first { result.next ≡ latest self.now.arcs.items vertex (length self.now.arcs.items) }
     {
-        Leaving {
-            graph: self,
-            next: self.star.heads[vertex],
-        }
+        self.lent().leaving(vertex)
     }
 
     // Sends an amount along arc `k`: it can take so much less, and its reverse so much more.

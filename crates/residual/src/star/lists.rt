@@ -3,16 +3,16 @@ ghost use Rattle.residual.specs.Arcs.{arc_at};
 ghost use Rattle.residual.specs.Laid.{max_arcs, max_vertices};
 ghost use Rattle.residual.specs.Star.{Indexed};
 
-use super::ForwardStar;
+use super::{ForwardStar, StarMemory};
 use crate::arcs::{Arc, MAX_ARCS, MAX_VERTICES};
 use std::alloc::{AllocError, Global};
 
-impl ForwardStar {
+impl StarMemory {
     // The memory for every flow network within the limits, with no arc listed.
-    pub(crate) fn new(heap: Global) -> Result<ForwardStar, AllocError>
+    pub(crate) fn new(heap: Global) -> Result<StarMemory, AllocError>
         ensures { IfOk result (λ star. Indexed [] star.heads.items star.nexts.items) }
     {
-        Ok(ForwardStar {
+        Ok(StarMemory {
             heads: vec![in heap; None; MAX_VERTICES]?,
             nexts: vec![in heap; None; MAX_ARCS]?,
         })
@@ -25,6 +25,17 @@ impl ForwardStar {
         ensures { Indexed arcs.now self.new.heads.items self.new.nexts.items }
     {
         index(arcs, self.heads.as_mut_slice(), self.nexts.as_mut_slice());
+    }
+
+    // The lists, lent.
+    pub(crate) fn lent(&self) -> ForwardStar<'_>
+        ensures heads { result.heads.now ≡ self.now.heads.items }
+        ensures nexts { result.nexts.now ≡ self.now.nexts.items }
+    {
+        ForwardStar {
+            heads: self.heads.as_slice(),
+            nexts: self.nexts.as_slice(),
+        }
     }
 }
 

@@ -2,7 +2,7 @@ use Rattle.std.proofs.Common.{◌<◌, ℕ, length, set, Some, None, Option, sym
 use Rattle.std.proofs.lemmas.Bool.{lt-ltb, ltb-false, ltb-true}
 use Rattle.residual.specs.declared.graph.leaving.Leaving.{Leaving}
 use Rattle.residual.specs.Laid.{sink_of, vertices}
-use Rattle.residual.proofs.Searching.{Gone, Popped, all_gone, filled, gone, same_graph}
+use Rattle.residual.proofs.Searching.{Gone, Popped, all_gone, filled, gone, same_arcs}
 use Rattle.pathsolver.specs.declared.step.Step.{Step}
 use Rattle.pathsolver.proofs.Seeking.{Inside, Outside, closes, ends, finds_slot, goes_by, goes_in, opens, paths_to, starts, step_fits}
 use Rattle.pathsolver.proofs.paths.sends.search.Goals as goal
@@ -34,7 +34,7 @@ loop-k-init c =
     let p : Popped c.loop-step.queue c.pop.new.self c.in-Some.step = record { next = e.next; used = e.used; room = e.room } in (
       tt,
       tt,
-      ap (λ (i : Leaving). i.graph.now) is ∙ c.leaving-k-items.ensures.graph,
+      ap (λ (i : Leaving). i.graph.arcs.now) is ∙ c.leaving-k-items.ensures.arcs,
       opens _ (ap (λ (i : Leaving). i.next) is ∙ c.leaving-k-items.ensures.first) p c.loop-step.invariant,
     )
 
@@ -60,7 +60,7 @@ loop-k-preserved-then-is_none c =
     record { fits = p.fits; queued = rw c.onward-found.ensures at p.queued; kept = p.kept; used = p.used; room = p.room } in (
       tt,
       tt,
-      same_graph c.loop-k.k-iterator c.next.new.self c.loop-k.invariant.2 c.in-Some-2.ensures.steps,
+      same_arcs c.loop-k.k-iterator c.next.new.self c.loop-k.invariant.2 c.in-Some-2.ensures.steps,
       rw c.onward-found.ensures on,
     )
 
@@ -70,7 +70,7 @@ loop-k-preserved c =
     let arc = given (goal.at.loop-k-preserved c).In-Some-2 in (
       tt,
       tt,
-      same_graph c.loop-k.k-iterator c.next.new.self c.loop-k.invariant.2 c.in-Some-2.ensures.steps,
+      same_arcs c.loop-k.k-iterator c.next.new.self c.loop-k.invariant.2 c.in-Some-2.ensures.steps,
       goes_by arc c.loop-k.invariant.3 graph.table
           (elim c.else-is_open.branch [
             | else-is_open-via-then-is_open+else-is_none w ↦ λ _. w.if-is_none.ensures

@@ -14,5 +14,5 @@ abbrev pub invariant-loop-k : goal.invariant-loop-k
 invariant-loop-k l =
     (goal.iterator-loop-k).can_next l.k-iterator
     × (goal.iterator-loop-k).is_finite l.k-iterator
-    × (l.k-iterator.graph.now ≡ l.graph)
+    × (l.k-iterator.graph.arcs.now ≡ l.graph.arcs.items)
     × Inside l.graph.arcs.items (vertices l.graph.nodes) (source_of l.graph.nodes) (sink_of l.graph.nodes) l.visits l.initial.queue l.queue l.step l.k-iterator.next

@@ -1,5 +1,0 @@
-use Rattle.std.proofs.Common.{◌≡◌, ℕ, ◌<◌, false, cond, get_or}
-use Rattle.residual.proofs.marking.Marker.write.Given as goal
-
-abbrev pub invariant-loop-node : goal.invariant-loop-node
-invariant-loop-node l = (v : ℕ) → v < l.node → get_or l.marks v 0 ≡ cond (get_or l.self.seen.items v false) 1 0
