@@ -33,14 +33,12 @@ impl Refusal {
     {
         self as u8
     }
-}
-
-impl fmt::Display for Refusal {
-    ghost output = { λ refusal. Some (wording refusal) };
 
     // What is wrong, in words.
-    fn fmt<W: fmt::Write>(&self, f: &mut fmt::Formatter<W>) -> fmt::Result {
-        f.write_str(match self {
+    pub(crate) fn wording(self) -> &'static str
+        ensures { result.now ≡ wording self }
+    {
+        match self {
             Refusal::NotANetworkFile => "the file has under 8 bytes or does not begin with DZN",
             Refusal::UnknownVersion => "the file's version is not one that this program reads",
             Refusal::TooManyNodesOrPipes => "there would be over 128 nodes or over 512 pipes",
@@ -60,6 +58,14 @@ impl fmt::Display for Refusal {
                 "a flow network is over the limits, a list or marks buffer has the wrong length, or an end node is missing or doubled",
             Refusal::CapacityTooLarge => "the capacities of a flow network sum to more than 2^62",
             Refusal::NotACommand => "the line is over 400 bytes or is no command",
-        })
+        }
+    }
+}
+
+impl fmt::Display for Refusal {
+    ghost output = { λ refusal. Some (wording refusal) };
+
+    fn fmt<W: fmt::Write>(&self, f: &mut fmt::Formatter<W>) -> fmt::Result {
+        f.write_str(self.wording())
     }
 }

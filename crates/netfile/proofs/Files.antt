@@ -40,10 +40,10 @@ module _ (net : Net) where
       ∙ drop_at (header (count net) (length net.pipes) ++ flat_map node_record net.weights) (flat_map pipe_record net.pipes) (pipes_place (count net)) length_front
 
   -- the leading bytes, the nodes and the pipes, written one after the other
-  pub file_pasted : (out : List ℕ) → pipes_place (count net) ≤ length out →
+  pub file_pasted : (out : List ℕ) →
       overwritten (overwritten (overwritten out 0 (header (count net) (length net.pipes))) header_size (flat_map node_record net.weights)) (pipes_place (count net)) (flat_map pipe_record net.pipes)
       ≡ over (file_of net) out
-  file_pasted out room =
+  file_pasted out =
       let h = header (count net) (length net.pipes) in
       let ns = flat_map node_record net.weights in
       let ps = flat_map pipe_record net.pipes in
